@@ -1,0 +1,50 @@
+-- What the code list says of an id: row after row, and by halving.
+-- Assumes nothing.
+use Prim.Native.Nat.{ℕ, zero, suc, _+_, _-_, _/_}
+use mathlib.Core.Bool.{Bool, cond}
+use mathlib.Core.List.{List}
+use lib.Dec.{leb, ltb, eqb}
+use lib.ListN.{length, getD}
+use Rattle.codes.specs.First.{firstOf}
+use Rattle.codes.specs.declared.Place.{Place}
+use Rattle.codes.specs.declared.Place.the-variants.{Row, Nowhere}
+use Rattle.codes.specs.declared.Entry.{Entry}
+use Rattle.codes.specs.declared.Entry.the-variants.{Listed, Unknown}
+
+abbrev pub hasId : List ℕ → ℕ → ℕ → Bool
+hasId ids id k = eqb (getD ids k 0) id
+
+-- the first row with an id, in any column of ids
+unfoldable pub placeOf : List ℕ → ℕ → Place
+placeOf ids id = firstOf (hasId ids id) (length ids)
+
+-- a row where it has the id
+unfoldable pub rowIf : List ℕ → ℕ → ℕ → Place
+rowIf ids id k = cond (ltb k (length ids)) (cond (hasId ids id k) (Row k) Nowhere) Nowhere
+
+-- of the rows from lo on, `size` of them: where the half begins that may have the id
+abbrev pub halfOf : List ℕ → ℕ → ℕ → ℕ → ℕ
+halfOf ids id lo size = cond (leb (getD ids (lo + size / 2) 0) id) (lo + size / 2) lo
+
+-- halving the rows from lo on, `size` of them, in at most so many turns, down to one row
+abbrev pub halve : ℕ → List ℕ → ℕ → ℕ → ℕ → Place
+halve zero ids id lo size = rowIf ids id lo
+halve (suc turns) ids id lo size =
+    cond (ltb 1 size) (halve turns ids id (halfOf ids id lo size) (size - size / 2)) (rowIf ids id lo)
+
+-- as many turns as rows are always enough
+unfoldable pub halvedOf : List ℕ → ℕ → Place
+halvedOf ids id = halve (length ids) ids id 0 (length ids)
+
+-- 01, "code-list rows (id, argument count, borrows-a-buffer 0 or 1)"
+abbrev pub entryAt : List ℕ → List ℕ → Place → Entry
+entryAt counts flags (Row k) = Listed (getD counts k 0) (getD flags k 0)
+entryAt counts flags Nowhere = Unknown
+
+-- row after row
+unfoldable pub entryOf : List ℕ → List ℕ → List ℕ → ℕ → Entry
+entryOf ids counts flags id = entryAt counts flags (placeOf ids id)
+
+-- by halving
+unfoldable pub lookedUp : List ℕ → List ℕ → List ℕ → ℕ → Entry
+lookedUp ids counts flags id = entryAt counts flags (halvedOf ids id)
