@@ -1,0 +1,9 @@
+pub mod Counting
+pub mod Queue
+pub mod Spread
+pub mod Exact
+pub mod Turns
+pub mod Bound
+pub mod Cases
+pub mod Moving
+pub mod Held
