@@ -1,0 +1,5 @@
+pub mod Putting
+pub mod Walking
+pub mod Running
+pub mod Calling
+pub mod Accepting
