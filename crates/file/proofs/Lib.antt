@@ -1,0 +1,6 @@
+pub mod RunLaws
+pub mod Threaded
+pub mod LaidLaws
+pub mod Picking
+pub mod ReadLaws
+pub mod WriteLaws

@@ -1,0 +1,15 @@
+pub mod Numbers
+pub mod Tables
+pub mod Columns
+pub mod Stated
+pub mod Examples
+pub mod TableLaws
+pub mod Written
+pub mod Transposed
+pub mod RoundTrip
+pub mod WritesBack
+pub mod ReadsBack
+pub mod Writing
+pub mod NumbersLaws
+pub mod WroteLaws
+pub mod Laws

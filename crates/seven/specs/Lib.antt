@@ -1,0 +1,4 @@
+pub mod Seven
+pub mod Write
+pub mod Forms
+pub mod Laws
