@@ -1,0 +1,71 @@
+-- For the crates above: which graph lent cells hold, which rows the entries have, and that the visit looks at nothing else. Assumes nothing.
+--     row-holds        the callees of a row are those that its cells hold, up to the first 0
+--     entry-known      an entry that is in the directory has its row among the rows of the entries
+--     known-entry      and a row below 128 among them is an entry's
+--     same-graph       graphs that agree on the 128 functions have the same visit
+use mathlib.Core.Path.{_≡_, refl, ap, _∙_, fun-ext}
+use mathlib.Core.Bool.{Bool}
+use mathlib.Core.List.{List, [], _∷_}
+use mathlib.Core.Logic.{inl, inr, ⊎-elim}
+use Prim.Native.Nat.{ℕ, zero, suc, _+_, _≤_, _<_}
+use native.Mathlib.Omega.{arith}
+use lib.ListN.{length, getD}
+use Rattle.codes.specs.declared.Place.{Place}
+use Rattle.codes.specs.declared.Place.the-variants.{Row, Nowhere}
+use Rattle.program.specs.Seat.{seatOf}
+use Rattle.visit.specs.declared.Visited.{Visited}
+use Rattle.visit.specs.Graph.{Graph, Among}
+use Rattle.visit.specs.Visit.{onward, largestOf, closes, opening, totalBy, totalOf, none, visitOf}
+use Rattle.visit.specs.Cells.{atCell, calleesFrom, rowAt, entryRows}
+use Rattle.visit.specs.Fuel.{callee-same}
+
+pub row-holds : (cells : List ℕ) (n place : ℕ) (gs : List ℕ) → length gs ≤ n
+    → ((i : ℕ) → i < length gs → getD cells (place + i) 0 ≡ suc (getD gs i 0))
+    → (length gs < n → getD cells (place + length gs) 0 ≡ 0)
+    → calleesFrom cells n place ≡ gs
+unfolding calleesFrom atCell
+row-holds cells zero place [] h on end = refl
+row-holds cells zero place (g ∷ gs) h on end = absurd (omega arith)
+row-holds cells (suc n) place [] h on end =
+    let e : getD cells place 0 ≡ 0 = ap (λ (k : ℕ). getD cells k 0) (omega arith) ∙ end (omega arith) in
+    rw e
+row-holds cells (suc n) place (g ∷ gs) h on end =
+    let e : getD cells place 0 ≡ suc g = ap (λ (k : ℕ). getD cells k 0) (omega arith) ∙ on 0 (omega arith) in
+    rw e (ap (λ (l : List ℕ). g ∷ l) (row-holds cells n (suc place) gs (omega arith)
+    (λ i k. ap (λ (m : ℕ). getD cells m 0) (omega arith) ∙ on (suc i) (omega arith))
+    (λ k. ap (λ (m : ℕ). getD cells m 0) (omega arith) ∙ end (omega arith))))
+
+pub entry-known : (ids entries : List ℕ) (e f : ℕ) → Among e entries → seatOf ids e ≡ Row f → Among f (entryRows ids entries)
+unfolding entryRows rowAt
+entry-known ids [] e f i q = i
+entry-known ids (x ∷ es) e f i q = ⊎-elim (λ z. inl (ap (λ (y : ℕ). rowAt (seatOf ids y)) z ∙ ap rowAt q)) (λ j. inr (entry-known ids es e f j q)) i
+
+row-of : (p : Place) (f : ℕ) → rowAt p ≡ f → f < 128 → p ≡ Row f
+unfolding rowAt
+row-of (Row g) f e h = ap Row e
+row-of Nowhere f e h = absurd (omega arith)
+
+pub known-entry : (ids entries : List ℕ) (f : ℕ) → Among f (entryRows ids entries) → f < 128 → (e : ℕ) × Among e entries × (seatOf ids e ≡ Row f)
+unfolding entryRows
+known-entry ids [] f i h = absurd i
+known-entry ids (x ∷ es) f i h =
+    ⊎-elim (λ q. (x, inl refl, row-of (seatOf ids x) f q h)) (λ j. let r = known-entry ids es f j h in (r .0, inr (r .1), r .2)) i
+
+module _ (G H : Graph) (pool : ℕ) (calls : (f : ℕ) → f < 128 → G .calls f ≡ H .calls f) (weight : (f : ℕ) → f < 128 → G .weight f ≡ H .weight f) where
+  same-close : (f : ℕ) → f < 128 → (best : ℕ) → closes G pool f best ≡ closes H pool f best
+  unfolding closes
+  same-close f hf best = rw (weight f hf)
+
+  same-by : (k : ℕ) (isOpen : ℕ → Bool) (f : ℕ) → f < 128 → totalBy G pool k isOpen f ≡ totalBy H pool k isOpen f
+  unfolding totalBy
+  same-by zero isOpen f hf = refl
+  same-by (suc k) isOpen f hf =
+      ap (λ (callee : ℕ → Visited). onward (largestOf callee (G .calls f) 0) (closes G pool f))
+      (fun-ext (callee-same (opening f isOpen) (totalBy G pool k (opening f isOpen)) (totalBy H pool k (opening f isOpen)) (λ g hg q. same-by k (opening f isOpen) g hg)))
+      ∙ rw (calls f hf, fun-ext (same-close f hf))
+
+  pub same-graph : (entries : List ℕ) → visitOf G pool entries ≡ visitOf H pool entries
+  unfolding visitOf totalOf
+  same-graph entries =
+      ap (λ (callee : ℕ → Visited). largestOf callee entries 0)
+      (fun-ext (callee-same none (totalBy G pool 128 none) (totalBy H pool 128 none) (λ g hg q. same-by 128 none g hg)))
