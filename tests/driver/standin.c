@@ -1,0 +1,330 @@
+// A second reading of 01 in C, behind the same functions as the static library: the comparison is tried on it, and with WRONG
+// set to a number it has one planted error, which the comparison must notice.
+
+#include "probe.h"
+
+#include <string.h>
+
+#ifndef WRONG
+#define WRONG 0
+#endif
+
+enum {
+    BOOL_NOT = 0x7B,
+    JMP = 0x7C,
+    JMP_IF_NOT = 0x80,
+    CALL = 0x84,
+    RET = 0x88,
+    RET_VOID = 0x8C,
+    DUP = 0x91,
+    SWAP = 0x92,
+    BUILTIN = 0x94,
+    COPY_REGION = 0xAD,
+    COPY_REGION_DEREF = 0xAE,
+    CMP_BR_I32 = 0xF4,
+    CMP_BR_I64 = 0xF5,
+    METHOD_CALL = 0xF8
+};
+
+// An opcode is class x 4 + tag. For each class: how many tags from 0 up are assigned, the bytes that operands take, and what an
+// instruction takes from the stack and leaves there. (LOAD_FALSE, LOAD_TRUE; JMP; CALL; .. in the order of the classes.)
+static const struct {
+    uint8_t tags, operands, takes, leaves;
+} classes[64] = {
+    {4, 2, 0, 1}, {2, 0, 0, 1}, {1, 2, 0, 1}, {4, 2, 0, 1}, // constants, variables
+    {4, 2, 1, 0}, {1, 0, 1, 1}, {1, 0, 2, 0}, {4, 0, 1, 1}, // storing, references, truncation
+    {4, 0, 2, 1}, {4, 0, 2, 1}, {4, 0, 2, 1}, {4, 0, 1, 1}, // ADD, SUB, MUL, NEG
+    {4, 0, 2, 1}, {2, 0, 2, 1}, {2, 0, 2, 1}, {2, 0, 2, 1}, // DIV, MOD; no float below unsigned and remainder
+    {4, 0, 2, 1}, {4, 0, 2, 1}, {4, 0, 2, 1}, {4, 0, 2, 1}, // comparison
+    {4, 0, 2, 1}, {4, 0, 2, 1}, {2, 0, 2, 1}, {2, 0, 2, 1}, // comparison, then unsigned
+    {2, 0, 2, 1}, {2, 0, 2, 1}, {2, 0, 2, 1}, {2, 0, 2, 1}, // unsigned comparison, bits
+    {2, 0, 2, 1}, {2, 0, 1, 1}, {4, 0, 2, 1}, {1, 2, 0, 0}, // bits, BIT_NOT, booleans, JMP
+    {1, 2, 1, 0}, {1, 4, 0, 1}, {1, 0, 0, 0}, {1, 0, 0, 0}, // JMP_IF_NOT, CALL, returns
+    {3, 0, 1, 0}, {1, 2, 0, 1}, {1, 2, 0, 1}, {1, 1, 1, 0}, // POP, BUILTIN, FB_LOAD_INSTANCE, FB_STORE_PARAM
+    {1, 1, 0, 1}, {1, 2, 0, 0}, {1, 4, 1, 1}, {3, 4, 2, 0}, // FB_LOAD_PARAM, FB_CALL, arrays and regions
+    {1, 4, 1, 1}, {1, 4, 2, 0}, {1, 7, 0, 0}, {1, 4, 0, 1}, // arrays by reference, STR_INIT, STR_LOAD_VAR
+    {1, 4, 1, 0}, {1, 4, 0, 1}, {1, 8, 0, 1}, {1, 8, 2, 1}, // STR_STORE_VAR, LEN, FIND, REPLACE
+    {1, 8, 1, 1}, {1, 4, 2, 1}, {1, 4, 1, 1}, {1, 4, 1, 1}, // INSERT, DELETE, LEFT, RIGHT
+    {1, 4, 2, 1}, {1, 8, 0, 1}, {1, 4, 0, 0}, {2, 4, 1, 1}, // MID, CONCAT, STR_INIT_ARRAY, loading from string arrays
+    {2, 4, 2, 0}, {2, 7, 0, 0}, {1, 7, 0, 0}, {0, 0, 0, 0}, // storing there, CMP_BR, METHOD_CALL
+};
+
+uint32_t probe_size(uint8_t op) {
+    if (op % 4 >= classes[op / 4].tags)
+        return 0;
+    // Copying a region names a second descriptor, which storing one element does not.
+    if (op / 4 == 0x2B && op % 4 > 0)
+        return WRONG == 1 ? 5 : 7;
+    return 1u + classes[op / 4].operands;
+}
+
+uint32_t probe_starts(const uint8_t *body, size_t n, uint8_t *marks, size_t marks_n) {
+    size_t at = 0;
+    while (at < n) {
+        uint32_t size = probe_size(body[at]);
+        if (size == 0)
+            return 1 + 4 * (uint32_t)at;
+        int cut = size > n - at && WRONG != 2;
+        if (at < marks_n && (!cut || WRONG == 8))
+            marks[at] = (uint8_t)size;
+        if (cut)
+            return 2 + 4 * (uint32_t)at;
+        at += size;
+    }
+    return 0;
+}
+
+uint32_t probe_has_ret(const uint8_t *body, size_t n) {
+    size_t at = 0;
+    while (at < n) {
+        uint32_t size = probe_size(body[at]);
+        if (WRONG == 3 && size == 0)
+            size = 1;
+        if (size == 0 || size > n - at)
+            return 0;
+        if (body[at] == RET)
+            return 1;
+        at += size;
+    }
+    return 0;
+}
+
+uint32_t probe_flow(uint8_t op, const uint8_t *operands, size_t n) {
+    size_t at = op == CMP_BR_I32 || op == CMP_BR_I64 ? (WRONG == 4 ? 3 : 5) : 0;
+    uint32_t word = at + 1 < n ? operands[at] | (uint32_t)operands[at + 1] << 8 : 0;
+    switch (op) {
+    case JMP: return 1 + 4 * word;
+    case JMP_IF_NOT:
+    case CMP_BR_I32:
+    case CMP_BR_I64: return 2 + 4 * word;
+    case RET:
+    case RET_VOID: return 3;
+    default: return 0;
+    }
+}
+
+uint64_t probe_target(size_t next, uint16_t word, const uint8_t *marks, size_t marks_n, size_t len) {
+    int64_t offset = word < 0x8000 || WRONG == 5 ? word : (int64_t)word - 0x10000;
+    int64_t target = (int64_t)next + offset;
+    int inside = target >= 0 && target < (int64_t)len && target < (int64_t)marks_n;
+    int legal = (inside && marks[target]) || (target == (int64_t)len && WRONG != 6);
+    return (uint64_t)(legal ? 1 : 0) + 2 * (uint64_t)(uint32_t)target;
+}
+
+uint32_t probe_lookup(const uint16_t *ids, size_t n, const uint16_t *counts, size_t cn, const uint16_t *flags, size_t fn,
+                      uint16_t id) {
+    for (size_t row = 0; row < n && row < cn && row < fn; row++)
+        if (ids[row] == id && !(WRONG == 7 && row + 1 == n))
+            return 1 + 2u * flags[row] + 4u * counts[row];
+    return 0;
+}
+
+// A program and the scratch lent with it.
+struct program {
+    const uint16_t *ids, *parameters, *maxima, *list_ids, *counts, *flags;
+    const size_t *offsets, *lengths;
+    const uint8_t *code;
+    size_t functions, rows, code_n;
+    uint8_t *marks;
+    uint32_t *depths;
+    uint16_t *queue, *queue_depths;
+};
+
+// One body that is checked, and the answer that it may give.
+struct body {
+    const struct program *in;
+    size_t row;
+    const uint8_t *at;
+    size_t n;
+    size_t first, behind; // the queue's first entry and the place behind its last
+    uint32_t *answer;
+};
+
+static uint32_t say(uint32_t *answer, uint32_t number, uint32_t function, size_t offset, uint32_t a, uint32_t b, uint32_t c) {
+    const uint32_t numbers[6] = {number, function, (uint32_t)offset, a, b, c};
+    memcpy(answer, numbers, sizeof numbers);
+    return number;
+}
+
+static uint32_t violation(const struct body *body, uint32_t number, size_t offset, uint32_t a, uint32_t b, uint32_t c) {
+    return say(body->answer, number, body->in->ids[body->row], offset, a, b, c);
+}
+
+static uint32_t word_at(const uint8_t *at) {
+    return at[0] | (uint32_t)at[1] << 8;
+}
+
+struct effect {
+    uint32_t takes, leaves;
+};
+
+static struct effect fixed_effect(uint8_t op) {
+    switch (op) {
+    case BOOL_NOT: return (struct effect){1, 1};
+    case DUP: return (struct effect){0, 1};
+    case SWAP: return (struct effect){2, 2};
+    case COPY_REGION:
+    case COPY_REGION_DEREF: return (struct effect){1, 0};
+    default: return (struct effect){classes[op / 4].takes, classes[op / 4].leaves};
+    }
+}
+
+// The effect of the instruction at `at`, or 3 or 4.
+static uint32_t effect_at(const struct body *body, size_t at, struct effect *effect) {
+    const struct program *in = body->in;
+    uint8_t op = body->at[at];
+    *effect = fixed_effect(op);
+    if (op == BUILTIN) {
+        uint32_t id = word_at(body->at + at + 1);
+        uint32_t found = probe_lookup(in->list_ids, in->rows, in->counts, in->rows, in->flags, in->rows, (uint16_t)id);
+        effect->takes = found / 4;
+        return found ? 0 : violation(body, 3, at, id, 0, 0);
+    }
+    if (op == CALL || op == METHOD_CALL) {
+        uint32_t id = word_at(body->at + at + 1);
+        size_t row = 0;
+        while (row < in->functions && in->ids[row] != id)
+            row++;
+        if (WRONG == 26)
+            row = id;
+        if (row >= in->functions)
+            return violation(body, 4, at, id, 0, 0);
+        effect->takes = in->parameters[WRONG == 14 ? body->row : row];
+        if (op == METHOD_CALL && WRONG != 24)
+            effect->leaves = probe_has_ret(in->code + in->offsets[row], in->lengths[row]);
+        else
+            effect->leaves = 1;
+    }
+    return 0;
+}
+
+// A successor: it gets the depth and joins the queue, or has it already, or 8.
+static uint32_t go_to(struct body *body, size_t to, uint32_t depth) {
+    const struct program *in = body->in;
+    uint32_t known = in->depths[to];
+    if (known == 0) {
+        in->depths[to] = depth + 1;
+        in->queue[body->behind] = (uint16_t)to;
+        in->queue_depths[body->behind] = (uint16_t)depth;
+        body->behind++;
+    } else if (known != depth + 1 && WRONG != 12) {
+        return violation(body, 8, to, known - 1, depth, 0);
+    }
+    return 0;
+}
+
+static uint32_t leave(const struct body *body, size_t at, uint32_t expected, uint32_t actual) {
+    return actual == expected ? 0 : violation(body, 9, at, expected, actual, 0);
+}
+
+// 01's rules at one place.
+static uint32_t look(struct body *body, size_t at, uint32_t depth) {
+    const struct program *in = body->in;
+    if (at == body->n)
+        return WRONG == 25 && depth == 1 ? 0 : leave(body, at, 0, depth);
+    uint8_t op = body->at[at];
+    struct effect effect;
+    uint32_t unknown = effect_at(body, at, &effect);
+    if (WRONG == 9 && unknown == 3 && depth == 0)
+        return violation(body, 5, at, op, 1, 0);
+    if (unknown)
+        return unknown;
+    if (depth < effect.takes)
+        return violation(body, 5, at, op, effect.takes, depth);
+    uint32_t after = depth - effect.takes + effect.leaves;
+    uint32_t peak = after > depth && WRONG != 10 ? after : depth;
+    if (peak > in->maxima[body->row])
+        return violation(body, 6, at, peak, in->maxima[body->row], 0);
+    size_t next = at + probe_size(op);
+    uint32_t flow = probe_flow(op, body->at + at + 1, next - at - 1);
+    if (flow % 4 == 0)
+        return go_to(body, next, after);
+    if (flow % 4 == 3)
+        return leave(body, at, op == RET, after);
+    uint64_t target = probe_target(next, (uint16_t)(flow / 4), in->marks, body->n, body->n);
+    if (target % 2 == 0 || (WRONG == 16 && target / 2 == body->n))
+        return violation(body, 7, at, (uint32_t)(target / 2), 0, 0);
+    size_t to = (size_t)(target / 2);
+    if (WRONG == 11 && flow % 4 == 2 && go_to(body, next, after))
+        return 8;
+    if (go_to(body, to, after))
+        return 8;
+    return flow % 4 == 2 ? go_to(body, next, after) : 0;
+}
+
+// Where decoding stops, 1 or 2; then the walk.
+static uint32_t check_body(struct body *body) {
+    const struct program *in = body->in;
+    uint32_t number = probe_starts(body->at, body->n, in->marks, body->n);
+    size_t stop = number / 4;
+    if (number && (WRONG != 17 || stop == 0))
+        return violation(body, number % 4, stop, body->at[stop], 0, 0);
+    if (number)
+        body->n = stop;
+    body->first = body->behind = 0;
+    number = go_to(body, 0, 0);
+    while (number == 0 && body->first < body->behind) {
+        size_t turn = WRONG == 23 ? --body->behind : body->first++;
+        number = look(body, in->queue[turn], in->queue_depths[turn]);
+    }
+    return number;
+}
+
+static uint32_t check_bodies(const struct program *in, uint32_t *answer) {
+    size_t last = WRONG == 13 && in->functions > 1 ? in->functions - 1 : in->functions;
+    for (size_t row = 0; row < last; row++) {
+        struct body body = {in, row, in->code + in->offsets[row], in->lengths[row], 0, 0, answer};
+        if (WRONG != 27 || row == 0)
+            memset(in->marks, 0, in->code_n);
+        memset(in->depths, 0, (in->code_n + 1) * sizeof *in->depths);
+        if (check_body(&body))
+            return answer[0];
+    }
+    return say(answer, 0, 0, 0, 0, 0, 0);
+}
+
+// 34, 32 and 33, in this order.
+static uint32_t refused(const struct program *in, uint32_t *answer) {
+    for (size_t row = 0; row < in->rows; row++)
+        if ((row && in->list_ids[row] <= in->list_ids[row - 1]) || in->flags[row] > (WRONG == 28 ? 255 : 1))
+            return say(answer, 34, 0, row, 0, 0, 0);
+    for (size_t row = 0; row < in->functions; row++)
+        for (size_t earlier = 0; earlier < row; earlier++)
+            if (in->ids[earlier] == in->ids[row])
+                return say(answer, 32, 0, WRONG == 19 ? earlier : row, 0, 0, 0);
+    for (size_t row = 0; row < in->functions; row++) {
+        size_t offset = in->offsets[row], length = in->lengths[row];
+        int outside = offset > in->code_n || length > in->code_n - offset;
+        if (WRONG == 20 ? offset + length > in->code_n : outside)
+            return say(answer, 33, 0, row, 0, 0, 0);
+    }
+    return 0;
+}
+
+uint32_t probe_stack(uint32_t *answer, size_t answer_n, uint8_t *marks, size_t marks_n, uint32_t *depths, size_t depths_n,
+                     uint16_t *queue, size_t queue_n, uint16_t *queue_depths, size_t queue_depths_n, const uint16_t *ids,
+                     size_t ids_n, const uint16_t *parameters, size_t parameters_n, const uint16_t *maxima, size_t maxima_n,
+                     const size_t *offsets, size_t offsets_n, const size_t *lengths, size_t lengths_n,
+                     const uint16_t *list_ids, size_t list_ids_n, const uint16_t *counts, size_t counts_n,
+                     const uint16_t *flags, size_t flags_n, const uint8_t *code, size_t code_n) {
+    const struct program in = {ids,     parameters, maxima, list_ids,   counts, flags,  offsets, lengths,
+                               code,    ids_n,      list_ids_n, code_n, marks,  depths, queue,   queue_depths};
+    if (answer_n != 6)
+        return 30;
+    if (ids_n > 128 || parameters_n != ids_n || maxima_n != ids_n || offsets_n != ids_n || lengths_n != ids_n ||
+        list_ids_n > 6144 || counts_n != list_ids_n || flags_n != list_ids_n || code_n > (WRONG == 29 ? 12287 : 12288))
+        return say(answer, 31, 0, 0, 0, 0, 0);
+    if (WRONG == 21 && refused(&in, answer))
+        return answer[0];
+    if (marks_n < code_n || depths_n < code_n + (WRONG != 18) || queue_n < 2 * code_n + 2 || queue_depths_n < 2 * code_n + 2)
+        return say(answer, 30, 0, 0, 0, 0, 0);
+    if (refused(&in, answer))
+        return answer[0];
+    check_bodies(&in, answer);
+    memset(marks, 0, WRONG == 22 ? code_n : marks_n);
+    memset(depths, 0, depths_n * sizeof *depths);
+    memset(queue, 0, queue_n * sizeof *queue);
+    if (WRONG != 15)
+        memset(queue_depths, 0, queue_depths_n * sizeof *queue_depths);
+    return answer[0];
+}
