@@ -158,4 +158,5 @@ def main():
         sys.exit("benchtext: %s" % wrong)
 
 
-main()
+if __name__ == "__main__":
+    main()

@@ -3,19 +3,13 @@
 # here from document 01 alone; it stands outside the proofs.
 import os
 
+from benchtext import form
+
 LIMITS = [(6144, 3), (128, 5), (256, 2), (32, 1)]
 
 
 class Stop(Exception):
     pass
-
-
-def form(n):
-    if n < 128:
-        return bytes([n])
-    if n < 16384:
-        return bytes([n % 128 + 128, n // 128])
-    return bytes([n % 128 + 128, n // 128 % 128 + 128, n // 16384])
 
 
 def number(file, at):
