@@ -1,0 +1,2 @@
+pub mod Tread
+pub mod Walk
