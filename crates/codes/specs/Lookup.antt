@@ -1,10 +1,10 @@
--- What the code list says of an id: row after row, and by halving.
+-- What the code list says of an id: row after row, by halving, and by hints.
 -- Assumes nothing.
-use Prim.Native.Nat.{ℕ, zero, suc, _+_, _-_, _/_}
+use Prim.Native.Nat.{ℕ, zero, suc, _+_, _-_, _/_, _%_}
 use mathlib.Core.Bool.{Bool, cond}
 use mathlib.Core.List.{List}
 use lib.Dec.{leb, ltb, eqb}
-use lib.ListN.{length, getD}
+use lib.ListN.{length, getD, set}
 use Rattle.codes.specs.First.{firstOf}
 use Rattle.codes.specs.declared.Place.{Place}
 use Rattle.codes.specs.declared.Place.the-variants.{Row, Nowhere}
@@ -48,3 +48,22 @@ entryOf ids counts flags id = entryAt counts flags (placeOf ids id)
 -- by halving
 unfoldable pub lookedUp : List ℕ → List ℕ → List ℕ → ℕ → Entry
 lookedUp ids counts flags id = entryAt counts flags (halvedOf ids id)
+
+-- the row of each id, noted at the cell of the id, row after row
+abbrev pub noteFrom : List ℕ → ℕ → ℕ → List ℕ → List ℕ
+noteFrom ids zero row hints = hints
+noteFrom ids (suc left) row hints = noteFrom ids left (suc row) (set hints (getD ids row 0 % 8192) (row % 65536))
+
+unfoldable pub noted : List ℕ → List ℕ → List ℕ
+noted ids hints = noteFrom ids (length ids) 0 hints
+
+abbrev pub orElse : Place → Place → Place
+orElse (Row k) other = Row k
+orElse Nowhere other = other
+
+-- the hinted row where it has the id, else by halving
+unfoldable pub hintedOf : List ℕ → List ℕ → ℕ → Place
+hintedOf hints ids id = orElse (rowIf ids id (getD hints (id % 8192) 0)) (halvedOf ids id)
+
+unfoldable pub hintedUp : List ℕ → List ℕ → List ℕ → List ℕ → ℕ → Entry
+hintedUp hints ids counts flags id = entryAt counts flags (hintedOf hints ids id)

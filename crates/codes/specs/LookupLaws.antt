@@ -1,8 +1,8 @@
--- What a place means, and that halving finds the row that reading row after row finds.
+-- What a place means, and that halving, with hints or without, finds the row that reading row after row finds.
 -- Assumes nothing.
-use Prim.Native.Nat.{ℕ, zero, suc, _+_, _-_, _/_, _^_, _≤_, _<_}
+use Prim.Native.Nat.{ℕ, zero, suc, _+_, _-_, _/_, _%_, _^_, _≤_, _<_}
 use native.Mathlib.Nat.{not-suc-le-zero, pow-zero, pow-suc}
-use native.Mathlib.Decide.{decLt}
+use native.Mathlib.Decide.{decLt, ℕ-discrete}
 use native.Mathlib.Omega.{arith}
 use mathlib.Core.Path.{_≡_, refl, _∙_, ap, sym}
 use mathlib.Core.List.{List}
@@ -10,9 +10,10 @@ use lib.ListN.{length, getD}
 use borrow.Author.Tests.{lt-ltb, le-ltb, le-leb, lt-leb, eqb-true, eqb-false, eq-eqb, ne-eqb}
 use Rattle.codes.specs.First.{row-means, nowhere-means, row-if, nowhere-if}
 use Rattle.codes.specs.Rows.{rowsOf}
-use Rattle.codes.specs.Lookup.{hasId, placeOf, rowIf, halfOf, halve, halvedOf, entryAt, entryOf, lookedUp}
+use Rattle.codes.specs.Lookup.{hasId, placeOf, rowIf, halfOf, halve, halvedOf, entryAt, entryOf, lookedUp, orElse, hintedOf, hintedUp}
 use Rattle.codes.specs.Laws.{rising-order, rising-le}
 use Rattle.codes.specs.declared.Order.the-variants.{Rises}
+use Rattle.codes.specs.declared.Place.{Place}
 use Rattle.codes.specs.declared.Place.the-variants.{Row, Nowhere}
 
 module _ (ids : List ℕ) (id : ℕ) where
@@ -56,6 +57,19 @@ module _ (ids : List ℕ) (id : ℕ) where
   pub row-past : (k : ℕ) → length ids ≤ k → rowIf ids id k ≡ Nowhere
   unfolding rowIf
   row-past k h = rw (le-ltb k (length ids) h)
+
+  -- what a hint gives: its row, or the halving
+  pub hinted-here : (hints : List ℕ) (k : ℕ) → k ≡ getD hints (id % 8192) 0 → k < length ids → getD ids k 0 ≡ id → hintedOf hints ids id ≡ Row k
+  unfolding hintedOf
+  hinted-here hints k w h e = ap (λ (j : ℕ). orElse (rowIf ids id j) (halvedOf ids id)) (sym w) ∙ ap (λ (p : Place). orElse p (halvedOf ids id)) (row-here k h e)
+
+  pub hinted-other : (hints : List ℕ) (k : ℕ) → k ≡ getD hints (id % 8192) 0 → k < length ids → (getD ids k 0 ≡ id → ⊥) → hintedOf hints ids id ≡ halvedOf ids id
+  unfolding hintedOf
+  hinted-other hints k w h e = ap (λ (j : ℕ). orElse (rowIf ids id j) (halvedOf ids id)) (sym w) ∙ ap (λ (p : Place). orElse p (halvedOf ids id)) (row-other k h e)
+
+  pub hinted-past : (hints : List ℕ) (k : ℕ) → k ≡ getD hints (id % 8192) 0 → length ids ≤ k → hintedOf hints ids id ≡ halvedOf ids id
+  unfolding hintedOf
+  hinted-past hints k w h = ap (λ (j : ℕ). orElse (rowIf ids id j) (halvedOf ids id)) (sym w) ∙ ap (λ (p : Place). orElse p (halvedOf ids id)) (row-past k h)
 
   -- one turn of the halving
   pub halve-turn : (turns lo size : ℕ) → 1 < size → halve (suc turns) ids id lo size ≡ halve turns ids id (halfOf ids id lo size) (size - size / 2)
@@ -161,3 +175,22 @@ module _ (ids flags : List ℕ) (rises : rowsOf ids flags ≡ Rises) (id : ℕ) 
   pub looked-up : (counts : List ℕ) → lookedUp ids counts flags id ≡ entryOf ids counts flags id
   unfolding lookedUp entryOf
   looked-up counts = ap (entryAt counts flags) halved-place
+
+  -- a row with the id is the one that reading row after row finds: an earlier one has a smaller id
+  only-row : (k : ℕ) → k < length ids → getD ids k 0 ≡ id → placeOf ids id ≡ Row k
+  only-row k h e = place-row ids id k h e (λ j l z. omega (arith, rising-order ids flags rises j k l h))
+
+  hinted-by : (hints : List ℕ) (k : ℕ) → k ≡ getD hints (id % 8192) 0 → Dec (k < length ids) → Dec (getD ids k 0 ≡ id) → hintedOf hints ids id ≡ placeOf ids id
+  hinted-by hints k w (no l) d = hinted-past ids id hints k w (omega arith) ∙ halved-place
+  hinted-by hints k w (yes h) (yes e) = hinted-here ids id hints k w h e ∙ sym (only-row k h e)
+  hinted-by hints k w (yes h) (no n) = hinted-other ids id hints k w h n ∙ halved-place
+
+  -- and so it is with hints, whatever they hold
+  pub hinted-place : (hints : List ℕ) → hintedOf hints ids id ≡ placeOf ids id
+  hinted-place hints =
+      let k : ℕ = getD hints (id % 8192) 0 in
+      hinted-by hints k refl (decLt k (length ids)) (ℕ-discrete (getD ids k 0) id)
+
+  pub hinted-up : (hints counts : List ℕ) → hintedUp hints ids counts flags id ≡ entryOf ids counts flags id
+  unfolding hintedUp entryOf
+  hinted-up hints counts = ap (entryAt counts flags) (hinted-place hints)

@@ -2,9 +2,9 @@
 ghost use mathlib.Core.Path.{_≡_};
 ghost use mathlib.Core.Bool.{cond};
 ghost use lib.Dec.{leb};
-ghost use Prim.Native.Nat.{_+_, _<_};
+ghost use Prim.Native.Nat.{_+_, _<_, _%_};
 ghost use Rattle.codes.specs.Rows.{rowsOf};
-ghost use Rattle.codes.specs.Lookup.{halvedOf, lookedUp};
+ghost use Rattle.codes.specs.Lookup.{halvedOf, lookedUp, entryAt, noted, hintedOf, hintedUp};
 
 // Whether the rows are in order; else the first faulty one.
 pub enum Order {
@@ -73,11 +73,10 @@ pub fn find(ids: &[u16], id: u16) -> Place
     Place::Nowhere
 }
 
-// The two lookups of builtin.rs over the list: the count and the flag of an id.
-pub fn lookup(ids: &[u16], counts: &[u16], flags: &[u16], id: u16) -> Entry
-    ensures { λ r. ⌜ r ≡ lookedUp (now (ids .entry)) (now (counts .entry)) (now (flags .entry)) id ⌝ }
+// What the list says at a place.
+fn entry_at(counts: &[u16], flags: &[u16], place: Place) -> Entry
+    ensures { λ r. ⌜ r ≡ entryAt (now (counts .entry)) (now (flags .entry)) place ⌝ }
 {
-    let place = find(ids, id);
     match place {
         Place::Row(row) => Entry::Listed {
             count: cells::u16_at(counts, row),
@@ -85,4 +84,62 @@ pub fn lookup(ids: &[u16], counts: &[u16], flags: &[u16], id: u16) -> Entry
         },
         Place::Nowhere => Entry::Unknown,
     }
+}
+
+// The two lookups of builtin.rs over the list: the count and the flag of an id.
+pub fn lookup(ids: &[u16], counts: &[u16], flags: &[u16], id: u16) -> Entry
+    ensures { λ r. ⌜ r ≡ lookedUp (now (ids .entry)) (now (counts .entry)) (now (flags .entry)) id ⌝ }
+{
+    entry_at(counts, flags, find(ids, id))
+}
+
+// The cell of an id's hint.
+fn hint_cell(id: u16) -> usize
+    ensures { λ r. ⌜ r ≡ id % 8192 ⌝ }
+{
+    id as usize % 8192
+}
+
+// A row's number as a hint: its low 16 bits, all that a list within 01's limit has.
+fn hint_of(row: usize) -> u16
+    ensures { λ r. ⌜ r ≡ row % 65536 ⌝ }
+{
+    (row % 65536) as u16
+}
+
+// Notes for each row, at the cell of its id, which row it is; of two ids with one cell the later row stands. Cells of no id stay as they were.
+pub fn note_rows(hints: &mut [u16], ids: &[u16])
+    ensures { λ r. ⌜ now (hints .exit) ≡ noted (now (ids .entry)) (now (hints .entry)) ⌝ }
+{
+    let mut row: usize = 0;
+    while row < ids.len() {
+        cells::put_u16(hints, hint_cell(ids[row]), hint_of(row));
+        row += 1;
+    }
+}
+
+fn wide(x: u16) -> usize
+    ensures { λ r. ⌜ r ≡ x ⌝ }
+{
+    x as usize
+}
+
+// The place of an id: the hinted row if it has the id, else by halving. A wrong hint costs time and nothing else.
+fn find_hinted(hints: &[u16], ids: &[u16], id: u16) -> Place
+    ensures { λ r. ⌜ r ≡ hintedOf (now (hints .entry)) (now (ids .entry)) id ⌝ }
+{
+    let row = wide(cells::u16_at(hints, hint_cell(id)));
+    if row < ids.len() {
+        if ids[row] == id {
+            return Place::Row(row);
+        }
+    }
+    find(ids, id)
+}
+
+// `lookup`, with hints that may hold anything.
+pub fn look_up(hints: &[u16], ids: &[u16], counts: &[u16], flags: &[u16], id: u16) -> Entry
+    ensures { λ r. ⌜ r ≡ hintedUp (now (hints .entry)) (now (ids .entry)) (now (counts .entry)) (now (flags .entry)) id ⌝ }
+{
+    entry_at(counts, flags, find_hinted(hints, ids, id))
 }
