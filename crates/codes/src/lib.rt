@@ -125,7 +125,7 @@ fn wide(x: u16) -> usize
 }
 
 // The place of an id: the hinted row if it has the id, else by halving. A wrong hint costs time and nothing else.
-fn find_hinted(hints: &[u16], ids: &[u16], id: u16) -> Place
+pub fn find_hinted(hints: &[u16], ids: &[u16], id: u16) -> Place
     ensures { λ r. ⌜ r ≡ hintedOf (now (hints .entry)) (now (ids .entry)) id ⌝ }
 {
     let row = wide(cells::u16_at(hints, hint_cell(id)));

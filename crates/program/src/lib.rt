@@ -246,7 +246,7 @@ pub fn pool_input(
     )
 }
 
-fn first_row(ids: &[u16], id: u16) -> Place
+pub fn first_row(ids: &[u16], id: u16) -> Place
     ensures { λ r. ⌜ r ≡ placeOf (now (ids .entry)) id ⌝ }
 {
     let mut i: usize = 0;
