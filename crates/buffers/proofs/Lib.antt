@@ -1,2 +1,3 @@
 pub mod Cases
 pub mod Queue
+pub mod Turns
