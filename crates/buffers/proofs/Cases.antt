@@ -132,3 +132,32 @@ module _ (temps : Temps) (opens : Opens) (marks body : List ℕ) (pool : ℕ) wh
           bounded-leads (length body + 1) pool _ _
           (λ o. flowing-bounded marks (length body) (offset + getD marks offset 0) pool _ (flowOf (getD body offset 0) (operandsAt body offset (getD marks offset 0))) (fits offset (ltb-true _ _ e)) o)
       by false e = tt
+
+-- what an instruction leaves grows with what it finds
+sum-grows : (effect : TempEffect) (held more : ℕ) → held ≤ more → sumBy effect held ≤ sumBy effect more
+sum-grows Keeps held more h = h
+sum-grows Borrows held more h = omega arith
+sum-grows GivesBack held more h = omega arith
+
+bounded-same : (pool sum larger : ℕ) (way : Way) → sum ≤ larger → larger ≤ pool → bounded pool sum way ≡ bounded pool larger way
+bounded-same pool sum larger way h l = rw (bounded-within pool sum way (omega arith), bounded-within pool larger way l)
+
+module _ (temps : Temps) (opens : Opens) (marks body : List ℕ) (pool offset held more : ℕ) (fewer : held ≤ more) where
+  abbrev at : ℕ → Tread
+  at h = treadOf temps opens marks body pool offset h
+
+  -- the sum is no smaller, the same function is opened, and within the pool the way is the same
+  pub tread-grows : (at held .sum ≤ at more .sum) × ((at held .opens ≡ at more .opens) × (at more .sum ≤ pool → at held .way ≡ at more .way))
+  unfolding treadOf acting
+  tread-grows = by (ltb offset (length body))
+    where
+      act : ℕ → Tread
+      act h = acting temps opens marks body pool offset h (getD body offset 0) (getD marks offset 0)
+
+      by : (b : Bool) → (cond b (act held) (treads held 0 Ends) .sum ≤ cond b (act more) (treads more 0 Ends) .sum)
+          × ((cond b (act held) (treads held 0 Ends) .opens ≡ cond b (act more) (treads more 0 Ends) .opens)
+          × (cond b (act more) (treads more 0 Ends) .sum ≤ pool → cond b (act held) (treads held 0 Ends) .way ≡ cond b (act more) (treads more 0 Ends) .way))
+      by true =
+          let g = sum-grows (temps (getD body offset 0) (operandsAt body offset (getD marks offset 0))) held more fewer in
+          (g, (refl, λ l. bounded-same pool _ _ _ g l))
+      by false = (fewer, (refl, λ l. refl))

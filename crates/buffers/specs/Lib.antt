@@ -1,2 +1,3 @@
 pub mod Tread
 pub mod Walk
+pub mod Meaning
