@@ -3,4 +3,7 @@ pub mod Queue
 pub mod Turns
 pub mod Noting
 pub mod Dominates
+pub mod Callees
+pub mod Trodden
+pub mod Paths
 pub mod Theorems

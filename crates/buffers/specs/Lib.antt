@@ -1,3 +1,4 @@
 pub mod Tread
 pub mod Walk
 pub mod Meaning
+pub mod Trodden

@@ -33,3 +33,8 @@ pub record Dominates (rule : ℕ → ℕ → Tread) (numbers : List ℕ) (u : Us
   pub onward : (offset held to : ℕ) → getD numbers offset 0 ≡ suc held → Next (rule offset held .way) to → rule offset held .sum < getD numbers to 0
   pub straight : (offset held : ℕ) → getD numbers offset 0 ≡ suc held → rule offset held .way ≡ Astray → ⊥
   pub calls : (offset held : ℕ) → getD numbers offset 0 ≡ suc held → (rule offset held .opens ≡ 0 → ⊥) → Among (rule offset held .opens) (u .callees)
+
+-- what an instruction leaves grows with what it finds; it opens the same, and within the pool it goes the same way
+abbrev pub Grows : (ℕ → ℕ → Tread) → ℕ → Type 0
+Grows rule pool = (offset held more : ℕ) → held ≤ more
+    → (rule offset held .sum ≤ rule offset more .sum) × ((rule offset held .opens ≡ rule offset more .opens) × (rule offset more .sum ≤ pool → rule offset held .way ≡ rule offset more .way))
