@@ -3,14 +3,14 @@
 -- Assumes nothing.
 use mathlib.Core.Path.{_≡_, refl, sym, ap, _∙_}
 use mathlib.Core.List.{List, [], _∷_, _++_}
-use mathlib.Core.Logic.{_⊎_, inl, inr, ⊎-elim, _↔_}
-use Prim.Native.Nat.{ℕ, zero, suc, _+_}
+use mathlib.Core.Logic.{_⊎_, inl, inr, ⊎-elim}
+use Prim.Native.Nat.{ℕ}
 use native.Mathlib.Omega.{arith}
 use lib.ListN.{length, length-append}
 use Rattle.buffers.specs.declared.Tread.{Tread}
 use Rattle.buffers.specs.Walk.{Entry, noted}
 use Rattle.buffers.specs.Meaning.{Among, Distinct}
-use Rattle.buffers.specs.Trodden.{madeAt, metFrom, Opened, Meets, Met}
+use Rattle.buffers.specs.Trodden.{madeAt, metFrom, Opened, Met}
 use Rattle.buffers.proofs.Noting.{Noting, none, met, new, noting, among-noted, among-note}
 
 -- the last of a list

@@ -6,7 +6,7 @@ use mathlib.Core.Path.{_≡_, refl, sym, ap, _∙_}
 use mathlib.Core.Bool.{Bool, true, false, cond}
 use mathlib.Core.List.{List, [], _∷_, _++_}
 use mathlib.Core.Logic.{_⊎_, inl, inr, ⊎-elim}
-use Prim.Native.Nat.{ℕ, zero, suc, _+_, _-_, _≤_, _<_}
+use Prim.Native.Nat.{ℕ, zero, suc, _+_, _≤_, _<_}
 use native.Mathlib.Decide.{ℕ-discrete}
 use native.Mathlib.Omega.{arith}
 use lib.ListN.{length, getD, set, length-set}
@@ -17,7 +17,7 @@ use Rattle.buffers.specs.declared.Way.{Way}
 use Rattle.buffers.specs.declared.Way.the-variants.{Ends, Astray, Goes, Forks}
 use Rattle.buffers.specs.declared.Tread.{Tread}
 use Rattle.buffers.specs.Tread.{Leads, Bounded}
-use Rattle.buffers.specs.Walk.{Entry, entry, Outcome, astray, full, go, then, raise, follow, Usage, noted, used, unused, Walked, walked, ended, walkFrom, begun, turnsOf, walkOf}
+use Rattle.buffers.specs.Walk.{Entry, entry, Outcome, astray, full, go, then, raise, follow, Usage, used, unused, walked, ended, walkFrom, begun, turnsOf, walkOf}
 use Rattle.buffers.specs.Meaning.{Among, Next, Dominates}
 use Rattle.buffers.proofs.Queue.{weight-larger, weight-other, used-callees, length-begun, begun-first, begun-other, walk-begun}
 use Rattle.buffers.proofs.Noting.{among-front, among-last, among-noted, among-note}

@@ -6,4 +6,6 @@ pub mod Dominates
 pub mod Callees
 pub mod Trodden
 pub mod Paths
+pub mod Crowded
+pub mod Pools
 pub mod Theorems

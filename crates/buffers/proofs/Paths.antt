@@ -3,11 +3,11 @@
 -- the weight is within the pool, the numbers are above every path, if what an instruction leaves grows with what it finds: by induction on the path,
 -- since the numbers dominate. The walk is then exact: its weight is the largest sum of all paths.
 -- Assumes nothing.
-use mathlib.Core.Path.{_≡_, refl, sym, ap, _∙_}
+use mathlib.Core.Path.{_≡_, refl, sym, _∙_}
 use mathlib.Core.Bool.{Bool, true, false, cond}
 use mathlib.Core.List.{List, [], _∷_, _++_}
 use mathlib.Core.Logic.{_⊎_, inl, inr, ⊎-elim}
-use Prim.Native.Nat.{ℕ, zero, suc, _+_, _-_, _≤_, _<_}
+use Prim.Native.Nat.{ℕ, zero, suc, _+_, _≤_, _<_}
 use native.Mathlib.Omega.{arith}
 use lib.ListN.{length, getD, set}
 use lib.Dec.{ltb}
@@ -15,7 +15,7 @@ use Rattle.buffers.specs.declared.Way.{Way}
 use Rattle.buffers.specs.declared.Way.the-variants.{Ends, Astray, Goes, Forks}
 use Rattle.buffers.specs.declared.Tread.{Tread}
 use Rattle.buffers.specs.Tread.{Leads, Bounded}
-use Rattle.buffers.specs.Walk.{Entry, entry, Outcome, astray, full, go, then, raise, follow, Usage, used, unused, Walked, undecodable, walked, ended, walkFrom, begun, turnsOf, walkOf}
+use Rattle.buffers.specs.Walk.{Entry, entry, Outcome, astray, full, go, then, raise, follow, Usage, used, unused, undecodable, walked, ended, walkFrom, begun, turnsOf, walkOf}
 use Rattle.buffers.specs.Meaning.{Among, Next, Dominates, Grows}
 use Rattle.buffers.specs.Trodden.{madeAt, onward, treadsFrom, treadsOf, First, Comes, start, step}
 use Rattle.buffers.proofs.Queue.{walk-begun}

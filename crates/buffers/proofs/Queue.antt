@@ -5,16 +5,15 @@
 use mathlib.Core.Path.{_≡_, refl, _∙_}
 use mathlib.Core.Bool.{Bool, true, false, cond}
 use mathlib.Core.List.{List, [], _∷_, _++_}
-use Prim.Native.Nat.{ℕ, zero, suc, _+_, _-_, _*_, _≤_, _<_}
+use Prim.Native.Nat.{ℕ, zero, suc, _+_, _*_, _≤_, _<_}
 use native.Mathlib.Omega.{arith}
 use lib.ListN.{length, getD, set, replicate, length-set, length-replicate}
 use lib.Seq.{getD-set-same, getD-set-other}
-use lib.Dec.{ltb, eqb}
+use lib.Dec.{eqb}
 use borrow.Author.Tests.{lt-ltb, le-ltb, eq-eqb, ne-eqb}
-use Rattle.buffers.specs.declared.Way.{Way}
 use Rattle.buffers.specs.declared.Way.the-variants.{Ends, Astray, Goes, Forks}
 use Rattle.buffers.specs.declared.Tread.{Tread}
-use Rattle.buffers.specs.Walk.{Entry, entry, Outcome, astray, full, go, then, raise, follow, Usage, has, noted, used, unused, Walked, undecodable, crowded, unfinished, walked, walkFrom, begun, turnsOf, walkOf, slack}
+use Rattle.buffers.specs.Walk.{Entry, entry, astray, full, go, raise, follow, Usage, has, noted, used, unused, undecodable, crowded, unfinished, walked, walkFrom, begun, turnsOf, walkOf, slack}
 
 -- The three ways of a successor.
 module _ (room : ℕ) (numbers : List ℕ) (queue : List Entry) (sum to : ℕ) where

@@ -1,35 +1,41 @@
 -- What the walk of a body means, at 01's rules of the temp buffers (Tread.antt) and for any pool and queue, where each mark fits the body. Numbers that
--- dominate, callees and successors are Meaning.antt's; the places trodden and paths are Trodden.antt's. Paths are not followed past the pool, as 01 has it.
+-- dominate, callees and successors are Meaning.antt's; the places trodden and paths are Trodden.antt's. A path ends where its sum passes the pool.
 -- Each is a law over any rules, taken at 01's. Assumes nothing.
 --     tread-grows            what an instruction leaves grows with what it finds; it opens the same, and within the pool it goes the same way
 --     turns-suffice          the walk always ends: it has more turns than it takes
 --     dominates              each offset that has a number was walked with it: its sum is at most the weight, its successors have no less than the sum,
 --                            its target is legal, and what it opens is among the callees
 --     weight-largest         the weight is at least every sum that was made
---     peak-first             the peak offset is the first place where the weight was made; both are 0 where nothing was borrowed
+--     peak-first             the peak offset is the first place where the weight was made; both are 0 where no sum is above 0
 --     callees-met            the callees are the cells opened at the places trodden, in first-met order, each once
 --     weight-small           the weight is at most the pool and 1
 --     within-pool            the weight is within the pool exactly if the sums of all paths are
---     weight-exact           and is then the largest sum of all paths
+--     pool-free              each path at any other pool is then a path at this one, so that none was missed for being ended at the pool
+--     weight-exact           and the weight is then the largest sum of all paths, at any pool
 --     callees-exact          and the callees are then exactly the cells opened on paths
---     undecodable-exact      22 is answered only if a path comes to an illegal target; and where a walk of a weight within the pool ended, none does
+--     crowded-exact          23 is answered exactly if a walk with a queue of any length would hold more entries at once than there is room for
+--     undecodable-strays     22 is answered only if a path comes to an illegal target
+--     walked-straight        and no path does, where a walk of a weight within the pool ended
 use mathlib.Core.Path.{_≡_}
 use mathlib.Core.List.{List}
-use mathlib.Core.Logic.{_⊎_, inl, inr, ⊎-elim, _↔_}
+use mathlib.Core.Logic.{_⊎_, inl, inr, _↔_}
 use Prim.Native.Nat.{ℕ, _+_, _≤_, _<_}
 use native.Mathlib.Omega.{arith}
 use lib.ListN.{length, getD}
 use Rattle.buffers.specs.declared.Way.the-variants.{Astray}
 use Rattle.buffers.specs.declared.Tread.{Tread}
 use Rattle.buffers.specs.Tread.{Temps, Opens, treadOf, Bounded}
-use Rattle.buffers.specs.Walk.{Entry, Usage, undecodable, unfinished, walked, walkOf}
+use Rattle.buffers.specs.Walk.{Entry, Usage, undecodable, crowded, unfinished, walked, walkOf}
 use Rattle.buffers.specs.Meaning.{Among, Dominates, Grows}
 use Rattle.buffers.specs.Trodden.{madeAt, treadsOf, First, Met, Comes}
+use Rattle.buffers.specs.Longest.{longestOf}
 use Rattle.buffers.proofs.Cases
 use Rattle.buffers.proofs.Turns
 use Rattle.buffers.proofs.Dominates as Dominating
 use Rattle.buffers.proofs.Trodden
 use Rattle.buffers.proofs.Paths
+use Rattle.buffers.proofs.Crowded
+use Rattle.buffers.proofs.Pools
 
 module _ (temps : Temps) (opens : Opens) (marks body : List ℕ) (pool : ℕ) where
   -- 01's rules
@@ -46,8 +52,11 @@ module _ (temps : Temps) (opens : Opens) (marks body : List ℕ) (pool : ℕ) wh
     pub turns-suffice : walkOf ruled room pool (length body + 1) ≡ unfinished → ⊥
     turns-suffice = Turns.turns-suffice ruled room pool (length body + 1) leads (omega arith)
 
-    strays : walkOf ruled room pool (length body + 1) ≡ undecodable → (offset : ℕ) × (held : ℕ) × Comes ruled offset held × (ruled offset held .way ≡ Astray)
-    strays e = Paths.undecodable-strays ruled room pool (length body + 1) e
+    pub crowded-exact : 0 < room → (walkOf ruled room pool (length body + 1) ≡ crowded) ↔ (room < longestOf ruled pool (length body + 1))
+    crowded-exact = Crowded.crowded-exactly ruled room pool (length body + 1)
+
+    pub undecodable-strays : walkOf ruled room pool (length body + 1) ≡ undecodable → (offset : ℕ) × (held : ℕ) × Comes ruled offset held × (ruled offset held .way ≡ Astray)
+    undecodable-strays e = Paths.undecodable-strays ruled room pool (length body + 1) e
 
     module _ (numbers : List ℕ) (u : Usage) (ends : walkOf ruled room pool (length body + 1) ≡ walked numbers u) where
       pub dominates : Dominates ruled numbers u
@@ -80,9 +89,19 @@ module _ (temps : Temps) (opens : Opens) (marks body : List ℕ) (pool : ℕ) wh
           by all (inr m) = omega (arith, m .2, all (u .peak) (m .0) (m .1))
 
       module _ (light : u .weight ≤ pool) where
-        pub weight-exact : ((offset held : ℕ) → Comes ruled offset held → ruled offset held .sum ≤ u .weight)
+        pub pool-free : (other offset held : ℕ) → Comes (treadOf temps opens marks body other) offset held → Comes ruled offset held
+        pool-free other = Pools.pool-free temps opens marks body pool other numbers u dominates light
+
+        pub weight-exact : ((other offset held : ℕ) → Comes (treadOf temps opens marks body other) offset held → treadOf temps opens marks body other offset held .sum ≤ u .weight)
             × (((u .weight ≡ 0) × (u .peak ≡ 0)) ⊎ ((held : ℕ) × Comes ruled (u .peak) held × (ruled (u .peak) held .sum ≡ u .weight)))
-        weight-exact = (Paths.paths-light ruled pool tread-grows numbers u dominates light, made)
+        weight-exact = (
+          λ other offset held c. omega (
+            arith,
+            Pools.tread-pools temps opens marks body pool other offset held .0,
+            Paths.paths-light ruled pool tread-grows numbers u dominates light offset held (pool-free other offset held c),
+          ),
+          made,
+        )
 
         pub callees-exact : (cell : ℕ) → Among cell (u .callees) ↔ ((cell ≡ 0 → ⊥) × ((offset : ℕ) × (held : ℕ) × Comes ruled offset held × (ruled offset held .opens ≡ cell)))
         callees-exact cell = (λ i. out (callees-met .exactly cell .0 i), λ o. back (o .0) (o .1))
@@ -94,6 +113,5 @@ module _ (temps : Temps) (opens : Opens) (marks body : List ℕ) (pool : ℕ) wh
             back : (cell ≡ 0 → ⊥) → (offset : ℕ) × (held : ℕ) × Comes ruled offset held × (ruled offset held .opens ≡ cell) → Among cell (u .callees)
             back n o = rw (o .3) at (Paths.paths-call ruled pool tread-grows numbers u dominates light (o .0) (o .1) (o .2) (rw (o .3) n))
 
-    pub undecodable-exact : (walkOf ruled room pool (length body + 1) ≡ undecodable → (offset : ℕ) × (held : ℕ) × Comes ruled offset held × (ruled offset held .way ≡ Astray))
-        × ((numbers : List ℕ) (u : Usage) → walkOf ruled room pool (length body + 1) ≡ walked numbers u → u .weight ≤ pool → (offset held : ℕ) → Comes ruled offset held → ruled offset held .way ≡ Astray → ⊥)
-    undecodable-exact = (strays, λ numbers u ends light offset held c e. Paths.paths-straight ruled pool tread-grows numbers u (dominates numbers u ends) light offset held c e)
+        pub walked-straight : (offset held : ℕ) → Comes ruled offset held → ruled offset held .way ≡ Astray → ⊥
+        walked-straight = Paths.paths-straight ruled pool tread-grows numbers u dominates light

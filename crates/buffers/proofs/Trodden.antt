@@ -4,15 +4,15 @@
 -- Assumes nothing.
 use mathlib.Core.Path.{_≡_, refl, sym, ap, _∙_}
 use mathlib.Core.Bool.{Bool, true, false, cond}
-use mathlib.Core.List.{List, [], _∷_, _++_}
+use mathlib.Core.List.{List, [], _∷_}
 use mathlib.Core.Logic.{_⊎_, inl, inr, ⊎-elim}
-use Prim.Native.Nat.{ℕ, zero, suc, _+_, _-_, _≤_, _<_}
+use Prim.Native.Nat.{ℕ, zero, suc, _+_, _≤_, _<_}
 use native.Mathlib.Omega.{arith}
 use lib.ListN.{getD}
 use lib.Dec.{ltb}
 use borrow.Author.Tests.{ltb-true, ltb-false}
 use Rattle.buffers.specs.declared.Tread.{Tread}
-use Rattle.buffers.specs.Walk.{Entry, entry, Outcome, astray, full, go, follow, Usage, used, unused, Walked, walked, ended, walkFrom, begun, turnsOf, walkOf}
+use Rattle.buffers.specs.Walk.{Entry, entry, Outcome, astray, full, go, follow, Usage, used, unused, walked, ended, walkFrom, begun, turnsOf, walkOf}
 use Rattle.buffers.specs.Meaning.{Among}
 use Rattle.buffers.specs.Trodden.{madeAt, onward, treadsFrom, treadsOf, First, metFrom, Met}
 use Rattle.buffers.proofs.Queue.{weight-larger, weight-other, peak-larger, peak-other, used-callees, walk-begun}

@@ -1,19 +1,19 @@
 -- The walk never runs out of its turns. Each turn takes an entry from the queue, and each entry that joins it raised a number, which the pool bounds:
 -- twice what is left to raise, and what waits, falls at every turn, and begins below the number of turns.
 -- Assumes nothing.
-use mathlib.Core.Path.{_≡_, refl, sym, _∙_}
+use mathlib.Core.Path.{_≡_, refl, _∙_}
 use mathlib.Core.Bool.{Bool, true, false, cond}
 use mathlib.Core.List.{List, [], _∷_, _++_}
-use Prim.Native.Nat.{ℕ, zero, suc, _+_, _-_, _*_, _≤_, _<_}
+use Prim.Native.Nat.{ℕ, zero, suc, _+_, _*_, _≤_, _<_}
 use native.Mathlib.Omega.{arith}
 use lib.ListN.{length, getD, set, length-append, length-set}
 use lib.Dec.{ltb}
-use borrow.Author.Tests.{ltb-true, ltb-false}
+use borrow.Author.Tests.{ltb-true}
 use Rattle.buffers.specs.declared.Way.{Way}
 use Rattle.buffers.specs.declared.Way.the-variants.{Ends, Astray, Goes, Forks}
 use Rattle.buffers.specs.declared.Tread.{Tread}
 use Rattle.buffers.specs.Tread.{Leads, Bounded}
-use Rattle.buffers.specs.Walk.{Entry, entry, Outcome, astray, full, go, then, raise, follow, Usage, used, unused, Walked, unfinished, walked, ended, walkFrom, begun, turnsOf, walkOf, slack}
+use Rattle.buffers.specs.Walk.{Entry, entry, Outcome, astray, full, go, then, raise, follow, Usage, used, unused, unfinished, ended, walkFrom, begun, turnsOf, walkOf, slack}
 use Rattle.buffers.proofs.Queue.{slack-set, slack-begun, length-begun, walk-begun, turns-are}
 
 -- what is left to do

@@ -2,3 +2,4 @@ pub mod Tread
 pub mod Walk
 pub mod Meaning
 pub mod Trodden
+pub mod Longest

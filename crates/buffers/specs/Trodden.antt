@@ -1,7 +1,7 @@
 -- The places that a walk treads, in its order: the entries that it takes from the queue and does not skip, with which weight, peak offset and callees
 -- are spoken of; and where a path through successors comes, with no queue in it.
 -- Assumes nothing.
-use Prim.Native.Nat.{ℕ, zero, suc, _+_, _≤_, _<_}
+use Prim.Native.Nat.{ℕ, zero, suc, _+_, _<_}
 use mathlib.Core.Path.{_≡_}
 use mathlib.Core.Bool.{cond}
 use mathlib.Core.List.{List, [], _∷_, _++_}
@@ -9,7 +9,7 @@ use mathlib.Core.Logic.{_↔_}
 use lib.ListN.{getD}
 use lib.Dec.{ltb}
 use Rattle.buffers.specs.declared.Tread.{Tread}
-use Rattle.buffers.specs.Walk.{Entry, entry, Outcome, astray, full, go, follow, Usage, noted, begun, turnsOf}
+use Rattle.buffers.specs.Walk.{Entry, entry, Outcome, astray, full, go, follow, noted, begun, turnsOf}
 use Rattle.buffers.specs.Meaning.{Among, Distinct, Next}
 
 -- what treading a place gives
