@@ -8,4 +8,5 @@ pub mod Trodden
 pub mod Paths
 pub mod Crowded
 pub mod Pools
+pub mod Legal
 pub mod Theorems

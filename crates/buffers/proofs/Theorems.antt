@@ -15,13 +15,17 @@
 --     callees-exact          and the callees are then exactly the cells opened on paths
 --     crowded-exact          23 is answered exactly if a walk with a queue of any length would hold more entries at once than there is room for
 --     undecodable-strays     22 is answered only if a path comes to an illegal target
---     walked-straight        and no path does, where a walk of a weight within the pool ended
+--     walked-straight        and no path does, where a walk of a weight within the pool ended:
+--     branches-legal         then every branch on a path has a legal target
 use mathlib.Core.Path.{_≡_}
 use mathlib.Core.List.{List}
 use mathlib.Core.Logic.{_⊎_, inl, inr, _↔_}
 use Prim.Native.Nat.{ℕ, _+_, _≤_, _<_}
 use native.Mathlib.Omega.{arith}
 use lib.ListN.{length, getD}
+use Rattle.flow.specs.declared.Flow.the-variants.{Jump, Branch}
+use Rattle.flow.specs.declared.Target.the-variants.{Legal}
+use Rattle.flow.specs.Decode.{operandsAt, flowOf, moved, targetOf}
 use Rattle.buffers.specs.declared.Way.the-variants.{Astray}
 use Rattle.buffers.specs.declared.Tread.{Tread}
 use Rattle.buffers.specs.Tread.{Temps, Opens, treadOf, Bounded}
@@ -36,6 +40,7 @@ use Rattle.buffers.proofs.Trodden
 use Rattle.buffers.proofs.Paths
 use Rattle.buffers.proofs.Crowded
 use Rattle.buffers.proofs.Pools
+use Rattle.buffers.proofs.Legal as Legality
 
 module _ (temps : Temps) (opens : Opens) (marks body : List ℕ) (pool : ℕ) where
   -- 01's rules
@@ -115,3 +120,8 @@ module _ (temps : Temps) (opens : Opens) (marks body : List ℕ) (pool : ℕ) wh
 
         pub walked-straight : (offset held : ℕ) → Comes ruled offset held → ruled offset held .way ≡ Astray → ⊥
         walked-straight = Paths.paths-straight ruled pool tread-grows numbers u dominates light
+
+        pub branches-legal : (offset held : ℕ) → Comes ruled offset held → offset < length body → (word : ℕ)
+            → (flowOf (getD body offset 0) (operandsAt body offset (getD marks offset 0)) ≡ Jump word) ⊎ (flowOf (getD body offset 0) (operandsAt body offset (getD marks offset 0)) ≡ Branch word)
+            → (to : ℕ) × (targetOf marks (length body) (moved (offset + getD marks offset 0) word) ≡ Legal to)
+        branches-legal = Legality.branches-legal temps opens marks body pool numbers u dominates light
