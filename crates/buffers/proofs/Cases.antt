@@ -90,6 +90,15 @@ module _ (temps : Temps) (opens : Opens) (marks body : List ℕ) (pool offset he
   tread-acts op size operands effect cell sum way within is-op is-size are is-effect is-cell is-sum is-way =
       simp (lt-ltb offset (length body) within, ← is-op, ← is-size, ← are, ← is-effect, ← is-cell, ← is-sum, ← is-way)
 
+  -- what is opened is what some instruction opens, or nothing
+  pub tread-opens : (x : ℕ) → ((op : ℕ) (operands : List ℕ) → opens op operands ≤ x) → treadOf temps opens marks body pool offset held .opens ≤ x
+  unfolding treadOf acting
+  tread-opens x h = by (ltb offset (length body))
+    where
+      by : (b : Bool) → cond b (acting temps opens marks body pool offset held (getD body offset 0) (getD marks offset 0)) (treads held 0 Ends) .opens ≤ x
+      by true = h (getD body offset 0) (operandsAt body offset (getD marks offset 0))
+      by false = omega arith
+
   pub tread-sum : treadOf temps opens marks body pool offset held .sum ≤ held + 1
   unfolding treadOf acting
   tread-sum = by (ltb offset (length body))

@@ -1,5 +1,5 @@
-pub mod Treading
 pub mod Ring
 pub mod Raising
 pub mod Listing
 pub mod Walking
+pub mod Treading

@@ -20,10 +20,12 @@ use Rattle.codes.specs.declared.Place.{Place}
 use Rattle.buffers.specs.declared.Way.{Way}
 use Rattle.buffers.specs.declared.Tread.{Tread}
 use Rattle.buffers.specs.Tread.{Temps, Opens, sumBy, onTarget, flowing, bounded, treads, treadOf}
-use Rattle.buffers.proofs.Cases.{flowing-next, flowing-return, tread-acts}
+use Rattle.buffers.proofs.Cases.{flowing-next, flowing-return, tread-acts, tread-bounded, tread-opens}
 use Rattle.callees.specs.Callees.{tempsBy, opensBy}
-use Rattle.callees.specs.Laws.{temps-fixed, opens-fixed}
+use Rattle.callees.specs.Laws.{temps-fixed, opens-fixed, opens-le}
 use Rattle.pool.specs.Plain.{PlainGoesOn}
+use Rattle.pool.specs.Columns.{Fitting}
+use Rattle.pool.proofs.Walking.{Lawful}
 
 pub sum-less : (held : ℕ) → (held ≡ 0 → ⊥) → held - 1 ≡ sumBy GivesBack held
 sum-less held n = refl
@@ -74,3 +76,12 @@ module _ (words : List ℕ) (find row : ℕ → Place) (flags types blocks marks
       es
       (sym (flowing-next marks (length body) (offset + wide)) ∙ sym (ap (flowing marks (length body) (offset + wide)) (flow-next op operands (g .0))))
       eb
+
+-- the rules of one body lead on within it and within the pool, and open one of 128 functions
+pub tread-lawful : (moves : ℕ → Move) (temps : ℕ → TempEffect) (find row : ℕ → Place) (flags types blocks marks body : List ℕ) (pool : ℕ) → Fitting marks body
+    → Lawful (treadOf (tempsBy moves temps find flags) (opensBy moves row types blocks) marks body pool) pool (length body + 1)
+tread-lawful moves temps find row flags types blocks marks body pool fits =
+    record {
+      leads = tread-bounded (tempsBy moves temps find flags) (opensBy moves row types blocks) marks body pool fits;
+      opens = λ offset held. tread-opens (tempsBy moves temps find flags) (opensBy moves row types blocks) marks body pool offset held 128 (opens-le moves row types blocks);
+    }

@@ -247,3 +247,41 @@ module _ (rule : ℕ → ℕ → Tread) (room pool n : ℕ) (lawful : Lawful rul
               enough = omega (arith, w .enough, g .1 .0, l .1, s .1 .0);
               goes-on = ap (λ (x : List Entry). walkFrom rule room (s .0) numbers′ x (found weight′ peak′ (take met′ row′))) (sym f) ∙ s .1 .1 .1;
             }, omega (arith, l .1))
+
+-- the columns keep their lengths
+pub record Same (numbers₀ places₀ carried₀ row₀ numbers places carried row : List ℕ) : Type 0 where
+  pub numbers-same : length numbers ≡ length numbers₀
+  pub places-same : length places ≡ length places₀
+  pub carried-same : length carried ≡ length carried₀
+  pub row-same : length row ≡ length row₀
+
+pub same-first : (numbers places carried row : List ℕ) → Same numbers places carried row numbers places carried row
+same-first numbers places carried row = record { numbers-same = refl; places-same = refl; carried-same = refl; row-same = refl }
+
+pub same-more : (numbers₀ places₀ carried₀ row₀ numbers places carried row numbers′ places′ carried′ row′ : List ℕ) → Same numbers₀ places₀ carried₀ row₀ numbers places carried row
+    → length numbers′ ≡ length numbers → length places′ ≡ length places → length carried′ ≡ length carried → length row′ ≡ length row → Same numbers₀ places₀ carried₀ row₀ numbers′ places′ carried′ row′
+same-more numbers₀ places₀ carried₀ row₀ numbers places carried row numbers′ places′ carried′ row′ s n p c r =
+    record { numbers-same = n ∙ s .numbers-same; places-same = p ∙ s .places-same; carried-same = c ∙ s .carried-same; row-same = r ∙ s .row-same }
+
+-- a turn and a first entry, as they were told
+pub turned-as : (count sum : ℕ) (turn told : Turn) (numbers places carried : List ℕ) (head : ℕ) (o : Outcome) → turn ≡ told → Turns count sum turn numbers places carried head o → Turns count sum told numbers places carried head o
+turned-as count sum turn told numbers places carried head o e t = rw e at t
+
+pub turned-astray : (count sum : ℕ) (turn : Turn) (numbers places carried : List ℕ) (head : ℕ) (o : Outcome) → turn ≡ Turn.Astray → Turns count sum turn numbers places carried head o → o ≡ astray
+unfolding Turns
+turned-astray count sum turn numbers places carried head o e t = rw e at t
+
+pub turned-full : (count sum : ℕ) (turn : Turn) (numbers places carried : List ℕ) (head : ℕ) (o : Outcome) → turn ≡ Turn.Full → Turns count sum turn numbers places carried head o → o ≡ full
+unfolding Turns
+turned-full count sum turn numbers places carried head o e t = rw e at t
+
+pub first-as : (first told : First) (numbers places carried : List ℕ) (queue : List Entry) → first ≡ told → Firsts first numbers places carried queue → Firsts told numbers places carried queue
+first-as first told numbers places carried queue e f = rw e at f
+
+pub walks-astray : (row : List ℕ) (w : Walked) → Used.Undecodable ≡ usedOf w → Walks Used.Undecodable row w
+unfolding Walks RowHolds
+walks-astray row w e = (e, tt)
+
+pub walks-full : (row : List ℕ) (w : Walked) → Used.QueueFull ≡ usedOf w → Walks Used.QueueFull row w
+unfolding Walks RowHolds
+walks-full row w e = (e, tt)
