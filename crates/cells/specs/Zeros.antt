@@ -10,6 +10,10 @@ use lib.Seq.{drop-length, length-take-le, take-at, drop-at}
 unfoldable pub zeros : ℕ → List ℕ
 zeros n = replicate n 0
 
+-- a lent column afterwards: all of it zero, spare cells included
+abbrev pub ZeroAfter : List ℕ → List ℕ → Type 0
+ZeroAfter first last = last ≡ zeros (length first)
+
 -- a column that is filled to its end
 pub filled : (first column : List ℕ) (i : ℕ) → length first ≤ i → i ≤ length first → column ≡ replicate i 0 ++ drop i first → column ≡ zeros (length first)
 unfolding zeros

@@ -5,6 +5,7 @@ use mathlib.Core.Bool.{Bool, true, false, cond}
 use mathlib.Core.List.{List}
 use lib.Dec.{eqb}
 use lib.ListN.{length, set}
+use Rattle.cells.specs.Zeros.{zeros}
 use Rattle.flow.specs.Decode.{stepBy}
 use Rattle.flow.specs.declared.Step.{Step}
 use Rattle.flow.specs.declared.Step.the-variants.{End, Unknown, Truncated, Instruction}
@@ -40,6 +41,10 @@ endOf (instr at op size w) = endOf w
 abbrev pub markAll : Walk → List ℕ → List ℕ
 markAll (stops at d) marks = marks
 markAll (instr at op size w) marks = markAll w (set marks at size)
+
+-- a body's start marks: an instruction's size at its first byte, 0 elsewhere
+unfoldable pub marksOf : (ℕ → ℕ) → List ℕ → List ℕ
+marksOf sizes body = markAll (walkBy sizes body 0) (zeros (length body))
 
 -- whether RET is among the instructions before the first decoding stop, reached or not
 abbrev pub hasRet : Walk → Bool

@@ -28,6 +28,20 @@ inputNumber (IdRepeated k) = 32
 inputNumber (BodyOutside k) = 33
 inputNumber PoolTooLarge = 35
 
+-- no refusal
+abbrev pub isTaken : Input → Bool
+isTaken Taken = true
+isTaken TooMany = false
+isTaken ScratchShort = false
+isTaken (ListFault k) = false
+isTaken (IdRepeated k) = false
+isTaken (BodyOutside k) = false
+isTaken PoolTooLarge = false
+
+-- the lent scratch: start marks, depths and two queue columns
+abbrev pub roomOf : ℕ → ℕ → ℕ → ℕ → Room
+roomOf m d q e = record { marks = m; depths = d; queue = q; «queue_depths» = e }
+
 -- "30 to 35 carry a place: the first faulty row for 32 (the later of the pair), 33 and 34, else 0"
 abbrev pub inputPlace : Input → ℕ
 inputPlace Taken = 0

@@ -10,7 +10,7 @@ ghost use Prim.Native.Nat.{_≤_};
 ghost use Rattle.codes.specs.Lookup.{placeOf};
 ghost use Rattle.codes.specs.Rows.{rowsOf};
 ghost use Rattle.program.specs.Program.{functionsOf, listOf, programOf, descriptorsOf, poolProgramOf};
-ghost use Rattle.program.specs.Refusals.{inputNumber, inputPlace, scratchShort, directoryOf, onList, onPool, inputOf, stackInput, poolInput};
+ghost use Rattle.program.specs.Refusals.{inputNumber, inputPlace, isTaken, scratchShort, directoryOf, onList, onPool, inputOf, stackInput, poolInput};
 ghost use Rattle.program.specs.Seat.{seatOf};
 
 // What is said of an input before anything is checked.
@@ -70,6 +70,20 @@ pub fn place(input: Input) -> usize
         Input::IdRepeated(row) => row,
         Input::BodyOutside(row) => row,
         Input::PoolTooLarge => 0,
+    }
+}
+
+pub fn is_taken(input: Input) -> bool
+    ensures { λ r. ⌜ r ≡ isTaken input ⌝ }
+{
+    match input {
+        Input::Taken => true,
+        Input::TooMany => false,
+        Input::ScratchShort => false,
+        Input::ListFault(_) => false,
+        Input::IdRepeated(_) => false,
+        Input::BodyOutside(_) => false,
+        Input::PoolTooLarge => false,
     }
 }
 
@@ -246,6 +260,7 @@ pub fn pool_input(
     )
 }
 
+// The first row with an id, row after row.
 pub fn first_row(ids: &[u16], id: u16) -> Place
     ensures { λ r. ⌜ r ≡ placeOf (now (ids .entry)) id ⌝ }
 {
