@@ -3,3 +3,4 @@ pub mod Raising
 pub mod Listing
 pub mod Walking
 pub mod Treading
+pub mod Running

@@ -88,3 +88,16 @@ Walks r row w = (r ≡ usedOf w) × RowHolds r row (calleesOf w)
 -- marks that fit their body: no instruction ends past it
 abbrev pub Fitting : List ℕ → List ℕ → Type 0
 Fitting marks body = (offset : ℕ) → offset < length body → offset + getD marks offset 0 ≤ length body
+
+-- marks and numbers are zero
+pub record Cleared (marks numbers : List ℕ) : Type 0 where
+  pub marks-zero : marks ≡ zeros (length marks)
+  pub numbers-zero : numbers ≡ zeros (length numbers)
+
+-- the columns have room for a body of n bytes
+pub record Roomy (n : ℕ) (marks numbers places carried : List ℕ) : Type 0 where
+  pub marks-room : n ≤ length marks
+  pub numbers-room : n + 1 ≤ length numbers
+  pub places-room : 2 * n + 2 ≤ length places
+  pub carried-room : 2 * n + 2 ≤ length carried
+  pub small : n ≤ 65535

@@ -1,5 +1,6 @@
 // The pool check of 01 over lent columns and lent scratch: each function in directory order decoded and walked, then for each entry the depth-first
 // visit of the call graph.
+mod bodies;
 mod tread;
 mod walk;
 
