@@ -4,3 +4,4 @@ pub mod Listing
 pub mod Walking
 pub mod Treading
 pub mod Running
+pub mod Rows

@@ -101,3 +101,20 @@ pub record Roomy (n : ℕ) (marks numbers places carried : List ℕ) : Type 0 wh
   pub places-room : 2 * n + 2 ≤ length places
   pub carried-room : 2 * n + 2 ≤ length carried
   pub small : n ≤ 65535
+
+-- the callee cells from a row on are zero, and the row is within them
+pub record Blank (row : ℕ) (cells : List ℕ) : Type 0 where
+  pub within : row * 128 + 128 ≤ length cells
+  pub blank : (i : ℕ) → row * 128 ≤ i → getD cells i 0 ≡ 0
+
+-- a row of 128 cells was lent out of the cells, and came back so
+pub record Laid (at : ℕ) (first last found : List ℕ) : Type 0 where
+  pub wide : length found ≡ 128
+  pub before : (i : ℕ) → i < at → getD last i 0 ≡ getD first i 0
+  pub here : (i : ℕ) → i < 128 → getD last (at + i) 0 ≡ getD found i 0
+  pub after : (i : ℕ) → at + 128 ≤ i → getD last i 0 ≡ getD first i 0
+
+pub record Lays (r : Used) (at : ℕ) (first last : List ℕ) (w : Walked) : Type 0 where
+  pub found : List ℕ
+  pub laid : Laid at first last found
+  pub holds : Walks r found w

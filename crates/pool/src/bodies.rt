@@ -11,7 +11,7 @@ ghost use Rattle.codes.specs.Lookup.{hintedOf};
 ghost use Rattle.program.specs.Seat.{seatOf};
 ghost use Rattle.callees.specs.Callees.{tempsBy, opensBy};
 ghost use Rattle.pool.specs.Plain.{PlainGoesOn};
-ghost use Rattle.pool.specs.Columns.{Walks, Cleared, Roomy};
+ghost use Rattle.pool.specs.Columns.{Walks, Cleared, Roomy, Blank, Lays};
 ghost use Rattle.pool.specs.Pool.{bodyWalk};
 
 // Decoded, then walked, over scratch of the body's size.
@@ -95,4 +95,48 @@ fn one(
     cells::clear_u8(&mut marks[..n]);
     cells::clear_u32(&mut numbers[..e]);
     used
+}
+
+// The body of the function at a row, with its row of the callee cells.
+fn at_row(
+    marks: &mut [u8],
+    numbers: &mut [u32],
+    places: &mut [u16],
+    carried: &mut [u16],
+    cells: &mut [u8],
+    sizes: &[u8; 256],
+    words: &[u16; 256],
+    body: &[u8],
+    hints: &[u16],
+    list_ids: &[u16],
+    flags: &[u16],
+    ids: &[u16],
+    types: &[u16],
+    blocks: &[u16],
+    pool: u16,
+    row: usize,
+) -> Used
+    requires { ⌜ Cleared (now marks) (now numbers) × (Roomy (length (now body)) (now marks) (now numbers) (now places) (now carried) × Blank row (now cells)) ⌝ }
+    requires { ⌜ PlainGoesOn (now words) × (pool < 65535) ⌝ }
+    ensures { λ r. ⌜ Lays r (row * 128) (now (cells .entry)) (now (cells .exit)) (bodyWalk (sizeIn (now (sizes .entry))) (tempsBy (moveIn (now (words .entry))) (tempIn (now (words .entry))) (hintedOf (now (hints .entry)) (now («list_ids» .entry))) (now (flags .entry))) (opensBy (moveIn (now (words .entry))) (seatOf (now (ids .entry))) (now (types .entry)) (now (blocks .entry))) pool (now (body .entry))) × ((now (marks .exit) ≡ zeros (length (now (marks .entry)))) × (now (numbers .exit) ≡ zeros (length (now (numbers .entry))))) ⌝ }
+{
+    let at = row * 128;
+    let end = at + 128;
+    one(
+        marks,
+        numbers,
+        places,
+        carried,
+        &mut cells[at..end],
+        sizes,
+        words,
+        body,
+        hints,
+        list_ids,
+        flags,
+        ids,
+        types,
+        blocks,
+        pool,
+    )
 }

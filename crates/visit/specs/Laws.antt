@@ -1,13 +1,15 @@
 -- For the crates above: which graph lent cells hold, which rows the entries have, and that the visit looks at nothing else. Assumes nothing.
 --     row-holds        the callees of a row are those that its cells hold, up to the first 0
+--     callees-are      a row is 128 cells
+--     same-cells       cells that agree along a row hold the same callees
 --     entry-known      an entry that is in the directory has its row among the rows of the entries
 --     known-entry      and a row below 128 among them is an entry's
 --     same-graph       graphs that agree on the 128 functions have the same visit
-use mathlib.Core.Path.{_≡_, refl, ap, _∙_, fun-ext}
+use mathlib.Core.Path.{_≡_, refl, ap, ap₂, _∙_, fun-ext}
 use mathlib.Core.Bool.{Bool}
 use mathlib.Core.List.{List, [], _∷_}
 use mathlib.Core.Logic.{inl, inr, ⊎-elim}
-use Prim.Native.Nat.{ℕ, zero, suc, _+_, _≤_, _<_}
+use Prim.Native.Nat.{ℕ, zero, suc, _+_, _*_, _≤_, _<_}
 use native.Mathlib.Omega.{arith}
 use lib.ListN.{length, getD}
 use Rattle.codes.specs.declared.Place.{Place}
@@ -16,7 +18,7 @@ use Rattle.program.specs.Seat.{seatOf}
 use Rattle.visit.specs.declared.Visited.{Visited}
 use Rattle.visit.specs.Graph.{Graph, Among}
 use Rattle.visit.specs.Visit.{onward, largestOf, closes, opening, totalBy, totalOf, none, visitOf}
-use Rattle.visit.specs.Cells.{atCell, calleesFrom, rowAt, entryRows}
+use Rattle.visit.specs.Cells.{atCell, calleesFrom, calleesIn, rowAt, entryRows}
 use Rattle.visit.specs.Fuel.{callee-same}
 
 pub row-holds : (cells : List ℕ) (n place : ℕ) (gs : List ℕ) → length gs ≤ n
@@ -34,6 +36,18 @@ row-holds cells (suc n) place (g ∷ gs) h on end =
     rw e (ap (λ (l : List ℕ). g ∷ l) (row-holds cells n (suc place) gs (omega arith)
     (λ i k. ap (λ (m : ℕ). getD cells m 0) (omega arith) ∙ on (suc i) (omega arith))
     (λ k. ap (λ (m : ℕ). getD cells m 0) (omega arith) ∙ end (omega arith))))
+
+pub callees-are : (cells : List ℕ) (f : ℕ) → calleesIn cells f ≡ calleesFrom cells 128 (f * 128)
+unfolding calleesIn
+callees-are cells f = refl
+
+pub same-cells : (cells cells′ : List ℕ) (n place : ℕ) → ((i : ℕ) → i < n → getD cells (place + i) 0 ≡ getD cells′ (place + i) 0) → calleesFrom cells n place ≡ calleesFrom cells′ n place
+unfolding calleesFrom
+same-cells cells cells′ zero place on = refl
+same-cells cells cells′ (suc n) place on =
+    let e : getD cells place 0 ≡ getD cells′ place 0 = ap (λ (k : ℕ). getD cells k 0) (omega arith) ∙ on 0 (omega arith) ∙ ap (λ (k : ℕ). getD cells′ k 0) (omega arith) in
+    ap₂ (λ (c : ℕ) (l : List ℕ). atCell c l) e (same-cells cells cells′ n (suc place)
+    (λ i k. ap (λ (m : ℕ). getD cells m 0) (omega arith) ∙ on (suc i) (omega arith) ∙ ap (λ (m : ℕ). getD cells′ m 0) (omega arith)))
 
 pub entry-known : (ids entries : List ℕ) (e f : ℕ) → Among e entries → seatOf ids e ≡ Row f → Among f (entryRows ids entries)
 unfolding entryRows rowAt
