@@ -5,3 +5,4 @@ pub mod Walking
 pub mod Treading
 pub mod Running
 pub mod Rows
+pub mod Going

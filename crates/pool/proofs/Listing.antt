@@ -122,7 +122,7 @@ module _ (row : List ℕ) (met cell : ℕ) (l : Listed row met) where
         )
 
 -- ---- the search along a row
-has-at : (c : ℕ) (cells : List ℕ) (i : ℕ) → i < length cells → getD cells i 0 ≡ c → has c cells ≡ true
+pub has-at : (c : ℕ) (cells : List ℕ) (i : ℕ) → i < length cells → getD cells i 0 ≡ c → has c cells ≡ true
 has-at c [] i h e = absurd (omega arith)
 has-at c (x ∷ cells) zero h e = has-here c x cells e
 has-at c (x ∷ cells) (suc i) h e = or-else (eqb x c) (has c cells) (has-at c cells i (omega arith) e)

@@ -10,7 +10,11 @@ use lib.Seq.{length-take-le, getD-take, getD-drop, getD-append-add}
 use Rattle.cells.specs.Zeros.{zeros, zero-at, length-zeros, any-zero}
 use Rattle.buffers.specs.declared.Used.{Used}
 use Rattle.buffers.specs.Walk.{Walked, has}
+use Rattle.visit.specs.Cells.{calleesIn}
+use Rattle.visit.specs.Laws.{row-holds, callees-are, same-cells}
 use Rattle.pool.specs.Columns.{Walks, Listed, Blank, Laid, Lays}
+use Rattle.pool.specs.Pool.{rowsIn}
+use Rattle.pool.proofs.Listing.{has-at}
 
 -- a column whose cells are all zero
 all-zero : (column : List ℕ) → ((i : ℕ) → i < length column → getD column i 0 ≡ 0) → column ≡ zeros (length column)
@@ -60,3 +64,33 @@ pub lays : (r : Used) (row : ℕ) (first last found : List ℕ) (w : Walked) (n 
 lays r row first last found w n b e k l h =
     let m : length (take 128 (drop (row * 128) first)) ≡ 128 = length-take-le 128 (drop (row * 128) first) (omega (arith, length-drop (row * 128) first, b .within)) in
     record { found = found; laid = laid (row * 128) first found (b .within) (k ∙ ap (λ (j : ℕ). length (take j (drop (row * 128) first))) e ∙ m) last (l ∙ ap (λ (j : ℕ). take (row * 128) first ++ (found ++ drop j (drop (row * 128) first))) e); holds = h }
+
+-- ---- what a row holds
+rows-length : (cells : List ℕ) → length (rowsIn cells) ≡ length cells
+rows-length [] = refl
+rows-length (c ∷ cells) = ap suc (rows-length cells)
+
+rows-at : (cells : List ℕ) (i : ℕ) → getD (rowsIn cells) i 0 ≡ getD cells i 0 - 1
+rows-at [] i = refl
+rows-at (c ∷ cells) zero = refl
+rows-at (c ∷ cells) (suc i) = rows-at cells i
+
+-- a listed row, laid into the cells, is read back
+module _ (cells found : List ℕ) (f met : ℕ) (l : Listed found met) (on : (i : ℕ) → i < 128 → getD cells (f * 128 + i) 0 ≡ getD found i 0) where
+  some : (i : ℕ) → i < met → 1 ≤ getD found i 0
+  some i h = l .cells (getD found i 0) (has-at (getD found i 0) (take met found) i (let t = length-take-le met found (omega (arith, l .wide, l .within)) in omega arith) (getD-take met found i 0 h)) .0
+
+  pub row-read : calleesIn cells f ≡ rowsIn (take met found)
+  row-read =
+      let t = length-take-le met found (omega (arith, l .wide, l .within)) in
+      let n = rows-length (take met found) in
+      callees-are cells f
+      ∙ row-holds cells 128 (f * 128) (rowsIn (take met found)) (omega (arith, l .within))
+      (λ i h. let k : i < met = omega arith in let s = some i k in let e = rows-at (take met found) i in let g = getD-take met found i 0 k in on i (omega (arith, l .within)) ∙ omega arith)
+      (λ h. let k : length (rowsIn (take met found)) ≡ met = n ∙ t in ap (λ (j : ℕ). getD cells (f * 128 + j) 0) k ∙ on met (omega arith) ∙ l .blank met (omega arith))
+
+pub row-empty : (cells : List ℕ) (f : ℕ) → ((i : ℕ) → i < 128 → getD cells (f * 128 + i) 0 ≡ 0) → calleesIn cells f ≡ []
+row-empty cells f on = callees-are cells f ∙ row-holds cells 128 (f * 128) [] (omega arith) (λ i h. absurd (omega arith)) (λ h. on 0 (omega arith))
+
+pub row-stays : (cells cells′ : List ℕ) (f : ℕ) → ((i : ℕ) → i < 128 → getD cells′ (f * 128 + i) 0 ≡ getD cells (f * 128 + i) 0) → calleesIn cells′ f ≡ calleesIn cells f
+row-stays cells cells′ f on = callees-are cells′ f ∙ same-cells cells′ cells 128 (f * 128) on ∙ sym (callees-are cells f)

@@ -11,9 +11,10 @@ use Rattle.flow.specs.Walk.{walkBy, endOf, markAll, marksOf}
 use Rattle.flow.specs.Next.{marks-fit}
 use Rattle.buffers.specs.declared.Used.{Used}
 use Rattle.buffers.specs.Tread.{Temps, Opens, treadOf}
-use Rattle.buffers.specs.Walk.{Walked, undecodable, begun, walkOf, usedOf, calleesOf}
+use Rattle.buffers.specs.Walk.{Walked, undecodable, crowded, unfinished, walked, begun, walkOf, usedOf, calleesOf}
 use Rattle.buffers.proofs.Queue.{begun-is}
-use Rattle.pool.specs.Columns.{Walks, RowHolds, Fitting, Cleared, Roomy}
+use Rattle.buffers.proofs.Theorems.{weight-small}
+use Rattle.pool.specs.Columns.{Walks, RowHolds, Fitting, Cleared, Roomy, Lays}
 use Rattle.pool.specs.Pool.{onDecoded, bodyWalk}
 use Rattle.pool.proofs.Walking.{walks-astray}
 
@@ -49,3 +50,23 @@ module _ (sizes : ℕ → ℕ) (temps : Temps) (opens : Opens) (pool : ℕ) (bod
 
   pub truncated-stops : (offset opcode : ℕ) → d ≡ Decoded.Truncated offset opcode → d ≡ endOf (walkBy sizes body 0) → Walks Used.Undecodable row (bodyWalk sizes temps opens pool body)
   truncated-stops offset opcode e s = body-stops sizes temps opens pool body (Decoded.Truncated offset opcode) row (sym e ∙ s) refl
+
+-- a weight passes the pool by one at most
+module _ (sizes : ℕ → ℕ) (temps : Temps) (opens : Opens) (pool : ℕ) (body : List ℕ) where
+  small-by : (marks : List ℕ) → Fitting marks body → (w : Walked) → walks sizes temps opens pool body marks ≡ w → (d : Decoded) (weight peak : ℕ) → Used.Uses weight peak ≡ usedOf (onDecoded d w) → weight ≤ pool + 1
+  small-by marks fits (walked numbers u) e Decoded.Whole weight peak h = let q : weight ≡ u .weight = cc in let s = weight-small temps opens marks body pool (2 * length body + 2) fits numbers u e in omega arith
+  small-by marks fits undecodable e Decoded.Whole weight peak h = absurd (let z : _≡_ {A = ℕ} 0 1 = cc in omega arith)
+  small-by marks fits crowded e Decoded.Whole weight peak h = absurd (let z : _≡_ {A = ℕ} 0 1 = cc in omega arith)
+  small-by marks fits unfinished e Decoded.Whole weight peak h = absurd (let z : _≡_ {A = ℕ} 0 1 = cc in omega arith)
+  small-by marks fits w e (Decoded.Unknown o b) weight peak h = absurd (let z : _≡_ {A = ℕ} 0 1 = cc in omega arith)
+  small-by marks fits w e (Decoded.Truncated o b) weight peak h = absurd (let z : _≡_ {A = ℕ} 0 1 = cc in omega arith)
+
+  pub body-small : (weight peak : ℕ) → Used.Uses weight peak ≡ usedOf (bodyWalk sizes temps opens pool body) → weight ≤ pool + 1
+  unfolding bodyWalk marksOf
+  body-small weight peak h =
+      small-by (marksOf sizes body) (marks-fitting sizes body (marksOf sizes body) (zeros (length body)) refl refl) (walks sizes temps opens pool body (marksOf sizes body)) refl (endOf (walkBy sizes body 0)) weight peak h
+
+-- the weight that a body was laid with
+pub lays-small : (sizes : ℕ → ℕ) (temps : Temps) (opens : Opens) (pool : ℕ) (body : List ℕ) (r : Used) (at : ℕ) (first last : List ℕ) (weight peak : ℕ) → Lays r at first last (bodyWalk sizes temps opens pool body) → r ≡ Used.Uses weight peak → weight ≤ pool + 1
+unfolding Walks
+lays-small sizes temps opens pool body r at first last weight peak y e = body-small sizes temps opens pool body weight peak (sym e ∙ y .holds .0)

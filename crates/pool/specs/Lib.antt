@@ -1,3 +1,4 @@
 pub mod Plain
 pub mod Columns
 pub mod Pool
+pub mod Usages

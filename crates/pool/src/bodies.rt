@@ -13,6 +13,7 @@ ghost use Rattle.callees.specs.Callees.{tempsBy, opensBy};
 ghost use Rattle.pool.specs.Plain.{PlainGoesOn};
 ghost use Rattle.pool.specs.Columns.{Walks, Cleared, Roomy, Blank, Lays};
 ghost use Rattle.pool.specs.Pool.{bodyWalk};
+ghost use Rattle.pool.specs.Usages.{walksBy, Found};
 
 // Decoded, then walked, over scratch of the body's size.
 fn run(
@@ -139,4 +140,85 @@ fn at_row(
         blocks,
         pool,
     )
+}
+
+// How the bodies end: all walked, or 22 or 23 with the function's id.
+pub enum Ended {
+    Walked,
+    Undecodable(u16),
+    QueueFull(u16),
+}
+
+// The weight and the peak offset of each function, by its row.
+pub struct Usages {
+    pub ended: Ended,
+    pub weights: [u16; 128],
+    pub peaks: [usize; 128],
+}
+
+// Functions in directory order.
+pub(crate) fn all(
+    marks: &mut [u8],
+    numbers: &mut [u32],
+    places: &mut [u16],
+    carried: &mut [u16],
+    cells: &mut [u8],
+    sizes: &[u8; 256],
+    words: &[u16; 256],
+    ids: &[u16],
+    offsets: &[usize],
+    lengths: &[usize],
+    hints: &[u16],
+    list_ids: &[u16],
+    flags: &[u16],
+    types: &[u16],
+    blocks: &[u16],
+    code: &[u8],
+    pool: u16,
+) -> Usages
+    requires { ⌜ Cleared (now marks) (now numbers) × (Roomy (length (now code)) (now marks) (now numbers) (now places) (now carried) × ((16384 ≤ length (now cells)) × (now cells ≡ zeros (length (now cells))))) ⌝ }
+    requires { ⌜ PlainGoesOn (now words) × ((pool < 65535) × (length (now ids) ≤ 128)) ⌝ }
+    ensures { λ r. ⌜ Found r (now (cells .exit)) (walksBy (bodyWalk (sizeIn (now (sizes .entry))) (tempsBy (moveIn (now (words .entry))) (tempIn (now (words .entry))) (hintedOf (now (hints .entry)) (now («list_ids» .entry))) (now (flags .entry))) (opensBy (moveIn (now (words .entry))) (seatOf (now (ids .entry))) (now (types .entry)) (now (blocks .entry))) pool) (now (offsets .entry)) (now (lengths .entry)) (now (code .entry))) (now (ids .entry)) ⌝ }
+    ensures { λ r. ⌜ (now (marks .exit) ≡ zeros (length (now (marks .entry)))) × (now (numbers .exit) ≡ zeros (length (now (numbers .entry)))) ⌝ }
+{
+    let mut weights = [0u16; 128];
+    let mut peaks = [0usize; 128];
+    let mut row: usize = 0;
+    while row < ids.len() {
+        let body = cells::part(
+            code,
+            cells::usize_at(offsets, row),
+            cells::usize_at(lengths, row),
+        );
+        let used = at_row(
+            marks, numbers, places, carried, cells, sizes, words, body, hints, list_ids, flags, ids,
+            types, blocks, pool, row,
+        );
+        match used {
+            Used::Undecodable => {
+                return Usages {
+                    ended: Ended::Undecodable(cells::u16_at(ids, row)),
+                    weights,
+                    peaks,
+                };
+            }
+            Used::QueueFull => {
+                return Usages {
+                    ended: Ended::QueueFull(cells::u16_at(ids, row)),
+                    weights,
+                    peaks,
+                };
+            }
+            Used::Uses { weight, peak } => {
+                weights[row] = weight as u16;
+                peaks[row] = peak;
+                row += 1;
+            }
+        }
+    }
+    Usages {
+        ended: Ended::Walked,
+        weights,
+        peaks,
+    }
 }
