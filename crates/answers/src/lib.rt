@@ -50,7 +50,8 @@ fn signed_word(spot: Spot) -> u64
     }
 }
 
-fn fields_by(number: u32, function: u16, offset: usize, a: u64, b: u64, c: u64) -> Fields
+// An answer by its number and values.
+pub fn fields_by(number: u32, function: u16, offset: usize, a: u64, b: u64, c: u64) -> Fields
     ensures { λ r. ⌜ r ≡ fieldsBy number function offset a b c ⌝ }
 {
     Fields {

@@ -48,6 +48,7 @@ pub record Going (walk : ℕ → Walked) (ids marks₀ numbers₀ places₀ carr
   pub blank-weights : (f : ℕ) → row ≤ f → getD weights f 0 ≡ 0
   pub peaks-wide : length peaks ≡ 128
   pub peak-at : (f : ℕ) → f < row → getD peaks f 0 ≡ peakOf (walk f)
+  pub blank-peaks : (f : ℕ) → row ≤ f → getD peaks f 0 ≡ 0
   pub goes-on : (rest : Verdict) → functionsFrom walk ids rest (length ids - row) row ≡ functionsFrom walk ids rest (length ids) 0
 
 pub going-first : (walk : ℕ → Walked) (ids marks numbers places carried cells weights peaks : List ℕ) → Cleared marks numbers → cells ≡ zeros (length cells) → weights ≡ replicate 128 0 → peaks ≡ replicate 128 0
@@ -70,6 +71,7 @@ going-first walk ids marks numbers places carried cells weights peaks c z w p =
       blank-weights = λ f h. any-zero weights 128 w′ f;
       peaks-wide = length-zeros peaks 128 p′;
       peak-at = λ f h. absurd (omega arith);
+      blank-peaks = λ f h. any-zero peaks 128 p′ f;
       goes-on = λ rest. ap (λ (k : ℕ). functionsFrom walk ids rest k 0) n;
     }
 
@@ -123,6 +125,7 @@ module _ (walk : ℕ → Walked) (ids marks₀ numbers₀ places₀ carried₀ c
               weighs = λ f k. g .weighs f (omega arith);
               blank-weights = λ f k. g .blank-weights f (omega arith);
               peak-at = λ f k. g .peak-at f (omega arith);
+              blank-peaks = λ f k. g .blank-peaks f (omega arith);
             };
       })
 
@@ -172,5 +175,6 @@ module _ (walk : ℕ → Walked) (ids marks₀ numbers₀ places₀ carried₀ c
           blank-weights = λ f h. getD-set-other weights row f weight 0 (λ q. omega arith) ∙ g .blank-weights f (omega arith);
           peaks-wide = length-set peaks row peak ∙ g .peaks-wide;
           peak-at = λ f h. set-by peaks row peak (λ k. peakOf (walk k)) (omega (arith, g .peaks-wide)) (g .peak-at) (u .1) f h (ℕ-discrete f row);
+          blank-peaks = λ f h. getD-set-other peaks row f peak 0 (λ q. omega arith) ∙ g .blank-peaks f (omega arith);
           goes-on = λ rest. sym (ap (λ (v : Used). onUsed (getD ids row 0) v (functionsFrom walk ids rest (length ids - (row + 1)) (row + 1))) (sym (lays-used used (row * 128) cells last (walk row) lays) ∙ e)) ∙ sym (step rest);
         }

@@ -6,3 +6,4 @@ pub mod Treading
 pub mod Running
 pub mod Rows
 pub mod Going
+pub mod Calling

@@ -43,7 +43,7 @@ module _ (numbers places carried : List ℕ) (head count sum to : ℕ) (ready : 
       let p = length-set places at to in
       let c = length-set carried at sum in (
         raise-new (length places) numbers (waiting places carried head count) sum to (omega arith) (omega (arith, waiting-length places carried head count))
-        ∙ ap (go (set numbers to (sum + 1))) (sym (rw s (waiting-joined places carried head (ready .inside) (ready .alike) count to sum l))),
+            ∙ ap (go (set numbers to (sum + 1))) (sym (rw s (waiting-joined places carried head (ready .inside) (ready .alike) count to sum l))),
         record { small = omega (arith, ready .small); alike = c ∙ ready .alike ∙ sym p; inside = omega (arith, ready .inside); few = omega arith },
       )
 
@@ -61,7 +61,7 @@ module _ (numbers places carried : List ℕ) (head sum to : ℕ) (ready : Ready 
         refl,
         (
           raise-new (length places) numbers (waiting places carried head 0) sum to (omega arith) (omega (arith, waiting-length places carried head 0, ready .inside))
-          ∙ ap (λ (q : List Entry). go (set numbers to (sum + 1)) (q ++ (entry to sum ∷ []))) (waiting-none places carried head),
+              ∙ ap (λ (q : List Entry). go (set numbers to (sum + 1)) (q ++ (entry to sum ∷ []))) (waiting-none places carried head),
           (getD-set-same numbers to (sum + 1) 0 t, record { small = omega (arith, ready .small); alike = ready .alike; inside = ready .inside; few = ready .few }),
         ),
       )

@@ -160,10 +160,15 @@ module _ (rule : ℕ → ℕ → Tread) (room pool n : ℕ) (lawful : Lawful rul
     goes : (q : List Entry) → outcome ≡ go numbers′ q
         → (k : ℕ) × ((w .left ≡ suc k) × (walkFrom rule room k numbers′ q (found weight′ peak′ (take met′ row′)) ≡ walkOf rule room pool n))
     goes q e =
-        let s = step (go numbers′ q) e in
-        (s .0, (s .1, ap (walkFrom rule room (s .0) numbers′ q) (sym (used-is offset weight peak weight′ peak′ (rule offset held) (take met row) (take met′ row′) (rw (← is) is-weight) (rw (← is) is-peak) (rw (← is) callees′)))
-        ∙ sym (walk-goes rule room (s .0) numbers offset held queue (found weight peak (take met row)) (w .fresh) numbers′ q (there (go numbers′ q) e))
-        ∙ ap (λ (k : ℕ). walkFrom rule room k numbers (entry offset held ∷ queue) (found weight peak (take met row))) (sym (s .1)) ∙ w .goes-on))
+        let s = step (go numbers′ q) e in (
+          s .0,
+          (
+            s .1,
+            ap (walkFrom rule room (s .0) numbers′ q) (sym (used-is offset weight peak weight′ peak′ (rule offset held) (take met row) (take met′ row′) (rw (← is) is-weight) (rw (← is) is-peak) (rw (← is) callees′)))
+                ∙ sym (walk-goes rule room (s .0) numbers offset held queue (found weight peak (take met row)) (w .fresh) numbers′ q (there (go numbers′ q) e))
+                ∙ ap (λ (k : ℕ). walkFrom rule room k numbers (entry offset held ∷ queue) (found weight peak (take met row))) (sym (s .1)) ∙ w .goes-on,
+          ),
+        )
 
     less : (q : List Entry) → outcome ≡ go numbers′ q → (length numbers′ ≡ length numbers) × (2 * slack pool numbers′ + length q ≤ 2 * slack pool numbers + length queue)
     less q e = follow-less (length places) pool (t .sum) numbers queue (t .way) leads-on numbers′ q e
@@ -179,18 +184,20 @@ module _ (rule : ℕ → ℕ → Tread) (room pool n : ℕ) (lawful : Lawful rul
           let q = waiting-length places carried head count in
           let none : waiting places carried head count ≡ [] = ap (waiting places carried head) z ∙ waiting-none places carried head in
           let s = grown-within (length places) numbers (t .sum) (t .way) (length numbers) pool numbers′ (entry to (t .sum)) [] leads-on (ap (λ (x : List Entry). follow (length places) numbers x (t .sum) (t .way)) (sym none) ∙ e) in
-          let empty : waiting places′ carried′ head count ≡ [] = ap (waiting places′ carried′ head) z ∙ waiting-none places′ carried′ head in
-          (record {
-            long = l .0 ∙ w .long;
-            capacity = same ∙ w .capacity;
-            ready = rw z r;
-            fresh = omega arith;
-            small = omega arith;
-            listed = listed′;
-            left = g .0;
-            enough = omega (arith, w .enough, g .1 .0, l .1);
-            goes-on = ap (λ (x : List Entry). walkFrom rule room (g .0) numbers′ (entry to (t .sum) ∷ x) (found weight′ peak′ (take met′ row′))) empty ∙ g .1 .1;
-          }, omega (arith, l .1))
+          let empty : waiting places′ carried′ head count ≡ [] = ap (waiting places′ carried′ head) z ∙ waiting-none places′ carried′ head in (
+            record {
+              long = l .0 ∙ w .long;
+              capacity = same ∙ w .capacity;
+              ready = rw z r;
+              fresh = omega arith;
+              small = omega arith;
+              listed = listed′;
+              left = g .0;
+              enough = omega (arith, w .enough, g .1 .0, l .1);
+              goes-on = ap (λ (x : List Entry). walkFrom rule room (g .0) numbers′ (entry to (t .sum) ∷ x) (found weight′ peak′ (take met′ row′))) empty ∙ g .1 .1;
+            },
+            omega (arith, l .1),
+          )
 
       module _ (waits : ℕ) (turn : Turns count (t .sum) (Turn.Go waits) numbers′ places′ carried′ head outcome) where
         pub walking-ready : Ready numbers′ places′ carried′ head waits
@@ -235,18 +242,20 @@ module _ (rule : ℕ → ℕ → Tread) (room pool n : ℕ) (lawful : Lawful rul
             let q″ = waiting-length places′ carried′ from many in
             let s = skip g in
             let z : length (skipped numbers′ (waiting places′ carried′ head waits)) ≡ suc many = ap length f ∙ ap suc q″ in
-            let m : suc many ≤ waits = skipped-le numbers′ (waiting places′ carried′ head waits) (suc many) waits z q′ in
-            (record {
-              long = l .0 ∙ w .long;
-              capacity = same ∙ w .capacity;
-              ready = r;
-              fresh = h;
-              small = b;
-              listed = listed′;
-              left = s .0;
-              enough = omega (arith, w .enough, g .1 .0, l .1, s .1 .0);
-              goes-on = ap (λ (x : List Entry). walkFrom rule room (s .0) numbers′ x (found weight′ peak′ (take met′ row′))) (sym f) ∙ s .1 .1 .1;
-            }, omega (arith, l .1))
+            let m : suc many ≤ waits = skipped-le numbers′ (waiting places′ carried′ head waits) (suc many) waits z q′ in (
+              record {
+                long = l .0 ∙ w .long;
+                capacity = same ∙ w .capacity;
+                ready = r;
+                fresh = h;
+                small = b;
+                listed = listed′;
+                left = s .0;
+                enough = omega (arith, w .enough, g .1 .0, l .1, s .1 .0);
+                goes-on = ap (λ (x : List Entry). walkFrom rule room (s .0) numbers′ x (found weight′ peak′ (take met′ row′))) (sym f) ∙ s .1 .1 .1;
+              },
+              omega (arith, l .1),
+            )
 
 -- the columns keep their lengths
 pub record Same (numbers₀ places₀ carried₀ row₀ numbers places carried row : List ℕ) : Type 0 where

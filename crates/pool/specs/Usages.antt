@@ -28,6 +28,7 @@ pub record Recorded (walk : ℕ → Walked) (n : ℕ) (cells weights peaks : Lis
   pub weighs : (f : ℕ) → f < n → getD weights f 0 ≡ weightOf (walk f)
   pub blank-weights : (f : ℕ) → n ≤ f → getD weights f 0 ≡ 0
   pub peak-at : (f : ℕ) → f < n → getD peaks f 0 ≡ peakOf (walk f)
+  pub blank-peaks : (f : ℕ) → n ≤ f → getD peaks f 0 ≡ 0
 
 unfoldable pub IfWalked : Ended → Type 0 → Type 0
 IfWalked Ended.Walked A = A
@@ -37,3 +38,9 @@ IfWalked (Ended.QueueFull function) A = Unit {0}
 pub record Found (r : Usages) (cells : List ℕ) (walk : ℕ → Walked) (ids : List ℕ) : Type 0 where
   pub told : Told (r .ended) walk ids
   pub recorded : IfWalked (r .ended) (Recorded walk (length ids) cells (r .weights) (r .peaks))
+
+-- 22 and 23, else what comes after the bodies
+unfoldable pub judgedOf : Ended → Verdict → Verdict
+judgedOf Ended.Walked rest = rest
+judgedOf (Ended.Undecodable function) rest = Verdict.Undecodable function
+judgedOf (Ended.QueueFull function) rest = Verdict.QueueFull function

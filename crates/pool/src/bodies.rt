@@ -44,8 +44,20 @@ fn run(
         Decoded::Whole => {
             numbers[0] = 1;
             walk(
-                numbers, places, carried, row, words, marks, body, hints, list_ids, flags, ids, types,
-                blocks, pool,
+                numbers,
+                places,
+                carried,
+                row,
+                words,
+                marks,
+                body,
+                hints,
+                list_ids,
+                flags,
+                ids,
+                types,
+                blocks,
+                pool,
             )
         }
     }
@@ -191,8 +203,22 @@ pub(crate) fn all(
             cells::usize_at(lengths, row),
         );
         let used = at_row(
-            marks, numbers, places, carried, cells, sizes, words, body, hints, list_ids, flags, ids,
-            types, blocks, pool, row,
+            marks,
+            numbers,
+            places,
+            carried,
+            cells,
+            sizes,
+            words,
+            body,
+            hints,
+            list_ids,
+            flags,
+            ids,
+            types,
+            blocks,
+            pool,
+            row,
         );
         match used {
             Used::Undecodable => {

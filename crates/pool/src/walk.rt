@@ -157,12 +157,17 @@ fn follow_on(
             if count == 0 {
                 return straight_on(numbers, places, carried, head, sum, to);
             }
-            turned(raise_one(
-                numbers, places, carried, head, count, sum, to,
-            ))
+            turned(raise_one(numbers, places, carried, head, count, sum, to))
         }
         Way::Forks { to, next } => turned(raise_both(
-            numbers, places, carried, head, count, sum, to, next,
+            numbers,
+            places,
+            carried,
+            head,
+            count,
+            sum,
+            to,
+            next,
         )),
     }
 }
@@ -180,13 +185,7 @@ fn wide_held(x: u16) -> u32
 }
 
 // Entries lower than the recorded number are skipped.
-fn first_of(
-    numbers: &[u32],
-    places: &[u16],
-    carried: &[u16],
-    from: usize,
-    waits: usize,
-) -> First
+fn first_of(numbers: &[u32], places: &[u16], carried: &[u16], from: usize, waits: usize) -> First
     requires { ⌜ Ready (now numbers) (now places) (now carried) from waits ⌝ }
     ensures { λ r. ⌜ Firsts r (now (numbers .entry)) (now (places .entry)) (now (carried .entry)) (waiting (now (places .entry)) (now (carried .entry)) from waits) ⌝ }
 {
@@ -282,7 +281,18 @@ pub(crate) fn walk(
     let mut met: usize = 0;
     loop {
         let step = tread(
-            words, marks, body, hints, list_ids, flags, ids, types, blocks, pool, offset, held,
+            words,
+            marks,
+            body,
+            hints,
+            list_ids,
+            flags,
+            ids,
+            types,
+            blocks,
+            pool,
+            offset,
+            held,
         );
         let opens = step.opens;
         met = note(row, met, opens);

@@ -3,7 +3,7 @@
 use Prim.Native.Nat.{ℕ, _+_, _*_, _≤_, _<_}
 use native.Mathlib.Omega.{arith}
 use mathlib.Core.Path.{_≡_, refl, _∙_}
-use mathlib.Core.Bool.{Bool, true, false, cond, _||_}
+use mathlib.Core.Bool.{Bool, true, false, cond, _||_, false≢true}
 use mathlib.Core.List.{[], _∷_}
 use lib.Dec.{ltb, eqb}
 use lib.ListN.{length, getD, drop, length-drop}
@@ -16,13 +16,13 @@ use Rattle.codes.specs.declared.Order.the-variants.{Rises, Fault}
 use Rattle.codes.specs.declared.Place.{Place}
 use Rattle.codes.specs.declared.Place.the-variants.{Row, Nowhere}
 use Rattle.program.specs.Program.{Functions, CodeList, Program, PoolProgram, bodyOf, rowOf}
-use Rattle.program.specs.Refusals.{tableRefused, functionsRefused, listRefused, tooMany, lengthsOf, poolTooMany, scratchShort, repeatedOf, outsideOf, onList, onRepeated, onOutside, directoryOf, contentsOf, onPool, inputOf, stackInput, poolInput}
+use Rattle.program.specs.Refusals.{isTaken, tableRefused, functionsRefused, listRefused, tooMany, lengthsOf, poolTooMany, scratchShort, repeatedOf, outsideOf, onList, onRepeated, onOutside, directoryOf, contentsOf, onPool, inputOf, stackInput, poolInput}
 use Rattle.program.specs.Laws.{table-means, inside-means, inside-if, seat-place}
 use Rattle.program.specs.Seat.{seatOf}
 use Rattle.program.specs.declared.Lengths.{Lengths}
 use Rattle.program.specs.declared.Room.{Room}
 use Rattle.program.specs.declared.Input.{Input}
-use Rattle.program.specs.declared.Input.the-variants.{Taken, TooMany, ScratchShort, PoolTooLarge}
+use Rattle.program.specs.declared.Input.the-variants.{Taken, TooMany, ScratchShort, ListFault, IdRepeated, BodyOutside, PoolTooLarge}
 
 -- the order of the refusals
 module _ (p : Program) (room : Room) (many short : Bool) (rest : Input) where
@@ -297,3 +297,13 @@ module _ (q : PoolProgram) (room : Room) (cells : ℕ) where
   -- what the pool call takes, the stack call takes
   pub pool-stack : poolInput q room cells ≡ Taken → stackInput (q .program) room ≡ Taken
   pool-stack e = taken-stack (q .program) room (pool-taken e .stack)
+
+-- where an input is no refusal, it is taken
+pub taken-is : (input : Input) → isTaken input ≡ true → input ≡ Taken
+taken-is Taken e = refl
+taken-is TooMany e = absurd (false≢true e)
+taken-is ScratchShort e = absurd (false≢true e)
+taken-is (ListFault k) e = absurd (false≢true e)
+taken-is (IdRepeated k) e = absurd (false≢true e)
+taken-is (BodyOutside k) e = absurd (false≢true e)
+taken-is PoolTooLarge e = absurd (false≢true e)
