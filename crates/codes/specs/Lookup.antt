@@ -49,13 +49,13 @@ entryOf ids counts flags id = entryAt counts flags (placeOf ids id)
 unfoldable pub lookedUp : List ℕ → List ℕ → List ℕ → ℕ → Entry
 lookedUp ids counts flags id = entryAt counts flags (halvedOf ids id)
 
--- the row of each id, noted at the cell of the id, row after row
-abbrev pub noteFrom : List ℕ → ℕ → ℕ → List ℕ → List ℕ
-noteFrom ids zero row hints = hints
-noteFrom ids (suc left) row hints = noteFrom ids left (suc row) (set hints (getD ids row 0 % 8192) (row % 65536))
+-- the row of each id, noted at the cell of the id, the last row first: of two ids with one cell the earlier row stands
+abbrev pub noteDown : List ℕ → ℕ → List ℕ → List ℕ
+noteDown ids zero hints = hints
+noteDown ids (suc row) hints = noteDown ids row (set hints (getD ids row 0 % 8192) (row % 65536))
 
 unfoldable pub noted : List ℕ → List ℕ → List ℕ
-noted ids hints = noteFrom ids (length ids) 0 hints
+noted ids hints = noteDown ids (length ids) hints
 
 abbrev pub orElse : Place → Place → Place
 orElse (Row k) other = Row k

@@ -107,14 +107,15 @@ fn hint_of(row: usize) -> u16
     (row % 65536) as u16
 }
 
-// Notes for each row, at the cell of its id, which row it is; of two ids with one cell the later row stands. Cells of no id stay as they were.
+// Notes for each row, at the cell of its id, which row it is. From the last row to the first: of two ids with one cell the smaller keeps it, and
+// the exported ids are small ones. Cells of no id stay as they were.
 pub fn note_rows(hints: &mut [u16], ids: &[u16])
     ensures { λ r. ⌜ now (hints .exit) ≡ noted (now (ids .entry)) (now (hints .entry)) ⌝ }
 {
-    let mut row: usize = 0;
-    while row < ids.len() {
+    let mut row = ids.len();
+    while 0 < row {
+        row -= 1;
         cells::put_u16(hints, hint_cell(ids[row]), hint_of(row));
-        row += 1;
     }
 }
 

@@ -1,53 +1,46 @@
--- `codes::note_rows` meets its contract. The invariant is `Noting`: the rows from this one on, noted, give the whole.
+-- `codes::note_rows` meets its contract. The invariant is `Noting`: the rows that are left, noted, give the whole.
 -- Assumes nothing.
 use borrow.Author.Needs.{needs}
-use Prim.Native.Nat.{ℕ, zero, suc, _+_, _-_, _%_, _≤_, _<_}
-use native.Mathlib.Numerals.{add-one}
+use Prim.Native.Nat.{ℕ, zero, suc, _-_, _%_, _≤_, _<_}
 use native.Mathlib.Omega.{arith}
 use mathlib.Core.Path.{_≡_, refl, _∙_, ap, ap₂, sym}
 use mathlib.Core.List.{List}
 use lib.ListN.{length, getD, set, length-set}
-use Rattle.codes.specs.Lookup.{noteFrom, noted}
+use Rattle.codes.specs.Lookup.{noteDown, noted}
 use Rattle.codes.proofs.note_rows.Statement.{statement}
 use Rattle.codes.proofs.note_rows.Tie as tie
 
 record Noting (ids first : List ℕ) (row : ℕ) (hints : List ℕ) : Type 0 where
   within : row ≤ length ids
   same : length hints ≡ length first
-  goes-on : noteFrom ids (length ids - row) row hints ≡ noteFrom ids (length ids) 0 first
-
-noting-none : (ids first : List ℕ) → Noting ids first 0 first
-noting-none ids first =
-    let d : length ids - 0 ≡ length ids = omega arith in
-    record { within = omega arith; same = refl; goes-on = ap (λ (k : ℕ). noteFrom ids k 0 first) d }
+  goes-on : noteDown ids row hints ≡ noteDown ids (length ids) first
 
 module _ (ids first : List ℕ) (row : ℕ) (hints : List ℕ) (n : Noting ids first row hints) where
-  note-one : (left : ℕ) → noteFrom ids (suc left) row hints ≡ noteFrom ids left (row + 1) (set hints (getD ids row 0 % 8192) (row % 65536))
-  note-one left = rw (add-one row)
-
-  noting-more : row < length ids → (last : List ℕ) (cell value : ℕ) → cell ≡ getD ids row 0 % 8192 → value ≡ row % 65536 → last ≡ set hints cell value → Noting ids first (row + 1) last
+  noting-more : 0 < row → (last : List ℕ) (cell value : ℕ) → cell ≡ getD ids (row - 1) 0 % 8192 → value ≡ (row - 1) % 65536 → last ≡ set hints cell value → Noting ids first (row - 1) last
   noting-more h last cell value a b e =
-      let d : length ids - row ≡ suc (length ids - (row + 1)) = omega arith in
-      let w = e ∙ ap₂ (set hints) a b in
+      let d : row ≡ suc (row - 1) = omega arith in
       record {
-        within = omega arith;
+        within = omega (arith, n .within);
         same = ap length e ∙ length-set hints cell value ∙ n .same;
-        goes-on = ap (noteFrom ids (length ids - (row + 1)) (row + 1)) w ∙ sym (note-one (length ids - (row + 1))) ∙ ap (λ (k : ℕ). noteFrom ids k row hints) (sym d) ∙ n .goes-on;
+        goes-on = ap (noteDown ids (row - 1)) (e ∙ ap₂ (set hints) a b) ∙ ap (λ (k : ℕ). noteDown ids k hints) (sym d) ∙ n .goes-on;
       }
 
-  noting-all : length ids ≤ row → hints ≡ noteFrom ids (length ids) 0 first
+  noting-all : row ≤ 0 → hints ≡ noteDown ids (length ids) first
   noting-all h =
-      let d : length ids - row ≡ 0 = omega arith in
-      sym (ap (λ (k : ℕ). noteFrom ids k row hints) d) ∙ n .goes-on
+      let d : 0 ≡ row = omega arith in
+      ap (λ (k : ℕ). noteDown ids k hints) d ∙ n .goes-on
 
 abbrev Inv-loop : tie.InvT-loop
 Inv-loop hints₀ ids row₀ hints row = Noting ids hints₀ row hints
 
 abbrev μ-loop : tie.MeasureT-loop
-μ-loop hints₀ ids row₀ hints row = length ids - row
+μ-loop hints₀ ids row₀ hints row = row
 
 loop-holds : tie.Need-loop-holds Inv-loop μ-loop
-loop-holds c = noting-none _ _
+loop-holds c = record { within = search needs; same = refl; goes-on = refl }
+
+sub-row : tie.Need-sub-row Inv-loop μ-loop
+sub-row c = search needs
 
 mul-hint-cell : tie.Need-mul-hint-cell Inv-loop μ-loop
 mul-hint-cell c = search needs
@@ -63,9 +56,6 @@ hint-of-requires c κs = search needs
 
 put-u16-requires : tie.Need-put-u16-requires Inv-loop μ-loop
 put-u16-requires c κs = search needs
-
-add-row : tie.Need-add-row Inv-loop μ-loop
-add-row c = search needs
 
 loop-less : tie.Need-loop-less Inv-loop μ-loop
 loop-less c = search needs
@@ -88,12 +78,12 @@ note-rows-spec =
     Inv-loop
     μ-loop
     loop-holds
+    sub-row
     mul-hint-cell
     shared-slice-read-hint-cell
     hint-cell-requires
     hint-of-requires
     put-u16-requires
-    add-row
     loop-less
     loop-again
     same-length
