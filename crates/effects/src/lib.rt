@@ -9,13 +9,15 @@ use tables::Move;
 ghost use mathlib.Core.Path.{_≡_};
 ghost use Rattle.tables.specs.Packed.{sizeIn, moveIn};
 ghost use Rattle.program.specs.Program.{listOf};
-ghost use Rattle.effects.specs.Effects.{Directory, directoryOf, builtinBy, callBy, methodBy, knownBy, filled, givesBack};
+ghost use Rattle.effects.specs.Effects.{Directory, directoryOf, builtinBy, callBy, methodBy, knownBy, filled, givesBack, namesMethod, givenBack};
+ghost use mathlib.Core.Bool.{true, cond};
+ghost use lib.Dec.{eqb};
 
 // BUILTIN takes its listed count and leaves 1.
-fn builtin_effect(list_ids: &[u16], counts: &[u16], flags: &[u16], id: u16) -> Known
-    ensures { λ r. ⌜ r ≡ builtinBy (listOf (now («list_ids» .entry)) (now (counts .entry)) (now (flags .entry))) id ⌝ }
+fn builtin_effect(hints: &[u16], list_ids: &[u16], counts: &[u16], flags: &[u16], id: u16) -> Known
+    ensures { λ r. ⌜ r ≡ builtinBy (now (hints .entry)) (listOf (now («list_ids» .entry)) (now (counts .entry)) (now (flags .entry))) id ⌝ }
 {
-    let entry = codes::lookup(list_ids, counts, flags, id);
+    let entry = codes::look_up(hints, list_ids, counts, flags, id);
     match entry {
         Entry::Listed { count, flag: _ } => Known::Moves(Effect::new(count, 1)),
         Entry::Unknown => Known::UnknownBuiltin(id),
@@ -58,6 +60,7 @@ fn method_effect(ids: &[u16], parameters: &[u16], given: &[u8], callee: Function
 // The effect of the instruction op with these operands. `given` holds, for each function, 1 if it gives back a value, else 0.
 pub fn effect_of(
     words: &[u16; 256],
+    hints: &[u16],
     list_ids: &[u16],
     counts: &[u16],
     flags: &[u16],
@@ -67,12 +70,12 @@ pub fn effect_of(
     op: u8,
     operands: &[u8],
 ) -> Known
-    ensures { λ r. ⌜ r ≡ knownBy (moveIn (now (words .entry))) (listOf (now («list_ids» .entry)) (now (counts .entry)) (now (flags .entry))) (directoryOf (now (ids .entry)) (now (parameters .entry)) (now (given .entry))) op (now (operands .entry)) ⌝ }
+    ensures { λ r. ⌜ r ≡ knownBy (moveIn (now (words .entry))) (now (hints .entry)) (listOf (now («list_ids» .entry)) (now (counts .entry)) (now (flags .entry))) (directoryOf (now (ids .entry)) (now (parameters .entry)) (now (given .entry))) op (now (operands .entry)) ⌝ }
 {
     let source = tables::move_in(words, op);
     match source {
         Move::Fixed(effect) => Known::Moves(effect),
-        Move::Builtin => builtin_effect(list_ids, counts, flags, flow::builtin_of(operands)),
+        Move::Builtin => builtin_effect(hints, list_ids, counts, flags, flow::builtin_of(operands)),
         Move::Call => call_effect(ids, parameters, flow::callee_of(operands)),
         Move::Method => method_effect(ids, parameters, given, flow::callee_of(operands)),
     }
@@ -89,8 +92,8 @@ fn gives_back(sizes: &[u8; 256], code: &[u8], offset: usize, length: usize) -> u
     }
 }
 
-// What each function gives back, a cell for each row of the directory.
-pub fn given_back(
+// A cell for each row of the directory.
+fn fill_given(
     given: &mut [u8],
     sizes: &[u8; 256],
     offsets: &[usize],
@@ -104,5 +107,42 @@ pub fn given_back(
         let value = gives_back(sizes, code, offsets[row], cells::usize_at(lengths, row));
         cells::put_u8(given, row, value);
         row += 1;
+    }
+}
+
+fn or_method(named: bool, byte: u8) -> bool
+    ensures { λ r. ⌜ r ≡ cond (eqb byte 0xF8) true named ⌝ }
+{
+    if byte == 0xF8 {
+        return true;
+    }
+    named
+}
+
+// Whether a byte of the code is METHOD_CALL's, be it an opcode or not. No early end: the compiler then looks at many bytes at once.
+fn names_method(code: &[u8]) -> bool
+    ensures { λ r. ⌜ r ≡ namesMethod (now (code .entry)) ⌝ }
+{
+    let mut named = false;
+    let mut i: usize = 0;
+    while i < code.len() {
+        named = or_method(named, code[i]);
+        i += 1;
+    }
+    named
+}
+
+// What each function gives back, where a METHOD_CALL may ask for it: else the cells stay as they were and no body is decoded.
+pub fn given_back(
+    given: &mut [u8],
+    sizes: &[u8; 256],
+    offsets: &[usize],
+    lengths: &[usize],
+    code: &[u8],
+)
+    ensures { λ r. ⌜ now (given .exit) ≡ givenBack (sizeIn (now (sizes .entry))) (now (offsets .entry)) (now (lengths .entry)) (now (code .entry)) (now (given .entry)) ⌝ }
+{
+    if names_method(code) {
+        fill_given(given, sizes, offsets, lengths, code);
     }
 }

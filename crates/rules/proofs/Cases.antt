@@ -1,11 +1,13 @@
 -- The rules at one place, a law for each case, with its tests as hypotheses: 01's order is what each law asks of the tests before its own.
 -- The code of a look is proved by these alone.
 -- Assumes nothing.
-use mathlib.Core.Path.{_≡_, refl, _∙_}
+use mathlib.Core.Path.{_≡_, refl, _∙_, ap}
+use mathlib.Core.Bool.{Bool, true, false, cond}
 use mathlib.Core.List.{List}
 use Prim.Native.Nat.{ℕ, _+_, _-_, _≤_, _<_}
 use lib.ListN.{length, getD}
-use borrow.Author.Tests.{lt-ltb, le-ltb, eq-eqb, ne-eqb}
+use lib.Dec.{ltb}
+use borrow.Author.Tests.{ltb-true, lt-ltb, le-ltb, eq-eqb, ne-eqb}
 use Rattle.tables.specs.declared.Effect.{Effect}
 use Rattle.flow.specs.declared.Spot.{Spot}
 use Rattle.flow.specs.declared.Flow.the-variants.{Next, Jump, Branch, Return}
@@ -91,3 +93,22 @@ module _ (known : Effects) (marks body : List ℕ) (maximum offset depth : ℕ) 
         pub look-flow : peak ≤ maximum → lookOf known marks body maximum offset depth ≡ flowing marks (length body) offset (offset + size) op out (flowOf op operands)
         unfolding moving
         look-flow l = look-known (Known.Moves e) is-known ∙ simp (le-ltb depth (e .takes) enough, ← is-out, ← is-peak, le-ltb maximum peak l)
+
+-- effects that agree at the opcodes of a body give the same looks
+alike-by : (known other : Effects) (marks body : List ℕ) (maximum offset depth : ℕ) → (offset < length body → (operands : List ℕ) → known (getD body offset 0) operands ≡ other (getD body offset 0) operands)
+    → (b : Bool) → ltb offset (length body) ≡ b
+    → cond b (acting known marks body maximum offset depth (getD body offset 0) (getD marks offset 0)) (exitAt offset 0 depth) ≡ cond b (acting other marks body maximum offset depth (getD body offset 0) (getD marks offset 0)) (exitAt offset 0 depth)
+unfolding acting
+alike-by known other marks body maximum offset depth h true e =
+    ap (onKnown offset (λ f. moving offset (getD body offset 0) maximum depth f (λ out. flowing marks (length body) offset (offset + getD marks offset 0) (getD body offset 0) out (flowOf (getD body offset 0) (operandsAt body offset (getD marks offset 0))))))
+    (h (ltb-true offset (length body) e) (operandsAt body offset (getD marks offset 0)))
+alike-by known other marks body maximum offset depth h false e = refl
+
+alike : (known other : Effects) (marks body : List ℕ) (maximum offset depth : ℕ) → (offset < length body → (operands : List ℕ) → known (getD body offset 0) operands ≡ other (getD body offset 0) operands)
+    → lookOf known marks body maximum offset depth ≡ lookOf other marks body maximum offset depth
+unfolding lookOf
+alike known other marks body maximum offset depth h = alike-by known other marks body maximum offset depth h (ltb offset (length body)) refl
+
+pub look-alike : (known other : Effects) (marks body : List ℕ) (maximum : ℕ) → ((offset : ℕ) → offset < length body → (operands : List ℕ) → known (getD body offset 0) operands ≡ other (getD body offset 0) operands)
+    → lookOf known marks body maximum ≡ lookOf other marks body maximum
+look-alike known other marks body maximum h = λ i offset depth. alike known other marks body maximum offset depth (h offset) i

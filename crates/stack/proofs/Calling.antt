@@ -10,6 +10,7 @@ use lib.ListN.{length, getD}
 use Rattle.cells.specs.Zeros.{zeros, length-zeros, as-long}
 use Rattle.tables.specs.declared.Move.{Move}
 use Rattle.tables.specs.Set.{sizeOf, moveOf}
+use Rattle.tables.specs.Laws.{method-only}
 use Rattle.tables.specs.Packed.{sizeIn, moveIn, sizeTable, wordTable}
 use Rattle.tables.specs.Stored.{size-stored, move-stored, GoesOn, goes-on-stored}
 use Rattle.program.specs.declared.Input.{Input}
@@ -20,9 +21,10 @@ use Rattle.program.specs.Taken.{StackTaken, stack-taken}
 use Rattle.rules.specs.declared.Violation.{Violation}
 use Rattle.rules.specs.declared.Walked.{Walked}
 use Rattle.rules.specs.Look.{Effects}
-use Rattle.effects.specs.Effects.{directoryOf, knownBy, knownOf, filled}
+use Rattle.effects.specs.Effects.{directoryOf, knownBy, knownOf, givenBack}
 use Rattle.effects.specs.Laws.{known-is}
 use Rattle.stack.specs.declared.Verdict.{Verdict}
+use Rattle.stack.proofs.Alike.{body-byte, answer-alike}
 use Rattle.stack.specs.Columns.{Cleared, Roomy}
 use Rattle.stack.specs.Stack.{isTaken, onInput, roomOf, onWalked, functionsFrom, functionsAnswer, stackAnswer, scratchAfter, ZeroAfter, bodyAnswer}
 
@@ -35,16 +37,19 @@ moves-are words e = ap moveIn e ∙ (λ i op. move-stored op i)
 pub words-go-on : (words : List ℕ) → words ≡ wordTable → GoesOn words
 words-go-on words e = rw e goes-on-stored
 
--- the code's answer for the bodies is 01's
-pub answer-is : (p : Program) (room : Room) (t : StackTaken p room) (sizes words given column : List ℕ) → sizes ≡ sizeTable → words ≡ wordTable
-    → given ≡ filled (sizeIn sizes) (p .functions .offsets) (p .functions .lengths) (p .code) column → 128 ≤ length column
-    → functionsAnswer (sizeIn sizes) (knownBy (moveIn words) (p .list) (directoryOf (p .functions .ids) (p .functions .parameters) given)) p ≡ functionsAnswer sizeOf (knownOf moveOf p) p
-answer-is p room t sizes words given column es ew eg wide =
+-- the code's answer for the bodies is 01's, whatever the hints hold
+pub answer-is : (p : Program) (room : Room) (t : StackTaken p room) (sizes words hints given column : List ℕ) → sizes ≡ sizeTable → words ≡ wordTable
+    → given ≡ givenBack (sizeIn sizes) (p .functions .offsets) (p .functions .lengths) (p .code) column → 128 ≤ length column
+    → functionsAnswer (sizeIn sizes) (knownBy (moveIn words) hints (p .list) (directoryOf (p .functions .ids) (p .functions .parameters) given)) p ≡ functionsAnswer sizeOf (knownOf moveOf p) p
+answer-is p room t sizes words hints given column es ew eg wide =
     let s = sizes-are sizes es in
-    let g : given ≡ filled sizeOf (p .functions .offsets) (p .functions .lengths) (p .code) column = eg ∙ ap (λ (f : ℕ → ℕ). filled f (p .functions .offsets) (p .functions .lengths) (p .code) column) s in
-    let k : knownBy (moveIn words) (p .list) (directoryOf (p .functions .ids) (p .functions .parameters) given) ≡ knownOf moveOf p =
-    ap₂ (λ (m : ℕ → Move) (u : List ℕ). knownBy m (p .list) (directoryOf (p .functions .ids) (p .functions .parameters) u)) (moves-are words ew) g ∙ known-is p room t column wide moveOf in
+    let all : List ℕ = givenBack sizeOf (p .functions .offsets) (p .functions .lengths) (p .code) column in
+    let g : given ≡ all = eg ∙ ap (λ (f : ℕ → ℕ). givenBack f (p .functions .offsets) (p .functions .lengths) (p .code) column) s in
+    let k : knownBy (moveIn words) hints (p .list) (directoryOf (p .functions .ids) (p .functions .parameters) given) ≡ knownBy moveOf hints (p .list) (directoryOf (p .functions .ids) (p .functions .parameters) all) =
+    ap₂ (λ (m : ℕ → Move) (u : List ℕ). knownBy m hints (p .list) (directoryOf (p .functions .ids) (p .functions .parameters) u)) (moves-are words ew) g in
     ap₂ (λ (f : ℕ → ℕ) (u : Effects). functionsAnswer f u p) s k
+    ∙ answer-alike sizeOf (knownBy moveOf hints (p .list) (directoryOf (p .functions .ids) (p .functions .parameters) all)) (knownOf moveOf p) p
+    (λ row offset h operands. let b = body-byte p row offset h in known-is p room t column wide hints moveOf method-only _ (b .0) _ (b .1) operands)
 
 -- the scratch of an input that is taken, cleared
 pub taken-room : (p : Program) (m d q e : ℕ) (marks depths queue : List ℕ) → StackTaken p (roomOf m d q e) → marks ≡ zeros m → depths ≡ zeros d → length queue ≡ q

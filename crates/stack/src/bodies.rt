@@ -23,6 +23,7 @@ fn run(
     sizes: &[u8; 256],
     words: &[u16; 256],
     body: &[u8],
+    hints: &[u16],
     list_ids: &[u16],
     counts: &[u16],
     flags: &[u16],
@@ -33,7 +34,7 @@ fn run(
 ) -> Walked
     requires { ⌜ (now marks ≡ zeros (length (now body))) × ((now depths ≡ zeros (length (now body) + 1)) × ((length (now body) + 1 ≤ length (now queue)) × (length (now body) ≤ 65535))) ⌝ }
     requires { ⌜ GoesOn (now words) ⌝ }
-    ensures { λ r. ⌜ r ≡ bodyAnswer (sizeIn (now (sizes .entry))) (knownBy (moveIn (now (words .entry))) (listOf (now («list_ids» .entry)) (now (counts .entry)) (now (flags .entry))) (directoryOf (now (ids .entry)) (now (parameters .entry)) (now (given .entry)))) (now (body .entry)) maximum ⌝ }
+    ensures { λ r. ⌜ r ≡ bodyAnswer (sizeIn (now (sizes .entry))) (knownBy (moveIn (now (words .entry))) (now (hints .entry)) (listOf (now («list_ids» .entry)) (now (counts .entry)) (now (flags .entry))) (directoryOf (now (ids .entry)) (now (parameters .entry)) (now (given .entry)))) (now (body .entry)) maximum ⌝ }
 {
     let decoded = flow::starts::mark_starts(marks, sizes, body);
     match decoded {
@@ -51,6 +52,7 @@ fn run(
                 words,
                 marks,
                 body,
+                hints,
                 list_ids,
                 counts,
                 flags,
@@ -71,6 +73,7 @@ fn one(
     sizes: &[u8; 256],
     words: &[u16; 256],
     body: &[u8],
+    hints: &[u16],
     list_ids: &[u16],
     counts: &[u16],
     flags: &[u16],
@@ -81,7 +84,7 @@ fn one(
 ) -> Walked
     requires { ⌜ Cleared (now marks) (now depths) × Roomy (length (now body)) (now marks) (now depths) (now queue) ⌝ }
     requires { ⌜ GoesOn (now words) ⌝ }
-    ensures { λ r. ⌜ (r ≡ bodyAnswer (sizeIn (now (sizes .entry))) (knownBy (moveIn (now (words .entry))) (listOf (now («list_ids» .entry)) (now (counts .entry)) (now (flags .entry))) (directoryOf (now (ids .entry)) (now (parameters .entry)) (now (given .entry)))) (now (body .entry)) maximum) × ((now (marks .exit) ≡ zeros (length (now (marks .entry)))) × (now (depths .exit) ≡ zeros (length (now (depths .entry))))) ⌝ }
+    ensures { λ r. ⌜ (r ≡ bodyAnswer (sizeIn (now (sizes .entry))) (knownBy (moveIn (now (words .entry))) (now (hints .entry)) (listOf (now («list_ids» .entry)) (now (counts .entry)) (now (flags .entry))) (directoryOf (now (ids .entry)) (now (parameters .entry)) (now (given .entry)))) (now (body .entry)) maximum) × ((now (marks .exit) ≡ zeros (length (now (marks .entry)))) × (now (depths .exit) ≡ zeros (length (now (depths .entry))))) ⌝ }
 {
     let n = body.len();
     let e = n + 1;
@@ -92,6 +95,7 @@ fn one(
         sizes,
         words,
         body,
+        hints,
         list_ids,
         counts,
         flags,
@@ -117,6 +121,7 @@ pub(crate) fn all(
     maxima: &[u16],
     offsets: &[usize],
     lengths: &[usize],
+    hints: &[u16],
     list_ids: &[u16],
     counts: &[u16],
     flags: &[u16],
@@ -125,7 +130,7 @@ pub(crate) fn all(
 ) -> Verdict
     requires { ⌜ Cleared (now marks) (now depths) × Roomy (length (now code)) (now marks) (now depths) (now queue) ⌝ }
     requires { ⌜ GoesOn (now words) ⌝ }
-    ensures { λ r. ⌜ (r ≡ functionsAnswer (sizeIn (now (sizes .entry))) (knownBy (moveIn (now (words .entry))) (listOf (now («list_ids» .entry)) (now (counts .entry)) (now (flags .entry))) (directoryOf (now (ids .entry)) (now (parameters .entry)) (now (given .entry)))) (programOf (functionsOf (now (ids .entry)) (now (parameters .entry)) (now (maxima .entry)) (now (offsets .entry)) (now (lengths .entry))) (listOf (now («list_ids» .entry)) (now (counts .entry)) (now (flags .entry))) (now (code .entry)))) × ((now (marks .exit) ≡ zeros (length (now (marks .entry)))) × (now (depths .exit) ≡ zeros (length (now (depths .entry))))) ⌝ }
+    ensures { λ r. ⌜ (r ≡ functionsAnswer (sizeIn (now (sizes .entry))) (knownBy (moveIn (now (words .entry))) (now (hints .entry)) (listOf (now («list_ids» .entry)) (now (counts .entry)) (now (flags .entry))) (directoryOf (now (ids .entry)) (now (parameters .entry)) (now (given .entry)))) (programOf (functionsOf (now (ids .entry)) (now (parameters .entry)) (now (maxima .entry)) (now (offsets .entry)) (now (lengths .entry))) (listOf (now («list_ids» .entry)) (now (counts .entry)) (now (flags .entry))) (now (code .entry)))) × ((now (marks .exit) ≡ zeros (length (now (marks .entry)))) × (now (depths .exit) ≡ zeros (length (now (depths .entry))))) ⌝ }
 {
     let mut row: usize = 0;
     while row < ids.len() {
@@ -141,6 +146,7 @@ pub(crate) fn all(
             sizes,
             words,
             body,
+            hints,
             list_ids,
             counts,
             flags,

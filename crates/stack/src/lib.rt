@@ -38,7 +38,8 @@ fn is_taken(input: Input) -> bool
 }
 
 // The bodies of an input that is not refused, over scratch that may hold anything: what each function gives back is decoded once, all scratch
-// is cleared once.
+// is cleared once. The walk queues no depths, so the second queue column holds the hints of the code list; any hints will do, so it need not be
+// cleared before.
 fn checked(
     marks: &mut [u8],
     depths: &mut [u32],
@@ -62,6 +63,7 @@ fn checked(
     let words = tables::words();
     let mut given = [0u8; 128];
     effects::given_back(&mut given, &sizes, offsets, lengths, code);
+    codes::note_rows(queue_depths, list_ids);
     cells::clear_u8(marks);
     cells::clear_u32(depths);
     let verdict = bodies::all(
@@ -75,6 +77,7 @@ fn checked(
         maxima,
         offsets,
         lengths,
+        queue_depths,
         list_ids,
         counts,
         flags,

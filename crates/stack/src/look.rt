@@ -180,6 +180,7 @@ pub(crate) fn look(
     words: &[u16; 256],
     marks: &[u8],
     body: &[u8],
+    hints: &[u16],
     list_ids: &[u16],
     counts: &[u16],
     flags: &[u16],
@@ -192,7 +193,7 @@ pub(crate) fn look(
 ) -> Look
     requires { ⌜ GoesOn (now words) ⌝ }
     requires { ⌜ (length (now body) ≤ 65535) × (depth < 4294967296) ⌝ }
-    ensures { λ r. ⌜ r ≡ lookOf (knownBy (moveIn (now (words .entry))) (listOf (now («list_ids» .entry)) (now (counts .entry)) (now (flags .entry))) (directoryOf (now (ids .entry)) (now (parameters .entry)) (now (given .entry)))) (now (marks .entry)) (now (body .entry)) maximum offset depth ⌝ }
+    ensures { λ r. ⌜ r ≡ lookOf (knownBy (moveIn (now (words .entry))) (now (hints .entry)) (listOf (now («list_ids» .entry)) (now (counts .entry)) (now (flags .entry))) (directoryOf (now (ids .entry)) (now (parameters .entry)) (now (given .entry)))) (now (marks .entry)) (now (body .entry)) maximum offset depth ⌝ }
 {
     if body.len() <= offset {
         return exit_at(offset, 0, depth);
@@ -213,6 +214,7 @@ pub(crate) fn look(
     let operands = flow::operands_of(body, offset, size);
     let known = effects::effect_of(
         words,
+        hints,
         list_ids,
         counts,
         flags,

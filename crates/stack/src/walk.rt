@@ -150,6 +150,7 @@ fn turn_at(
     words: &[u16; 256],
     marks: &[u8],
     body: &[u8],
+    hints: &[u16],
     list_ids: &[u16],
     counts: &[u16],
     flags: &[u16],
@@ -164,12 +165,13 @@ fn turn_at(
 ) -> Turn
     requires { ⌜ Ready (now depths) (now queue) tail × (length (now depths) ≡ length (now body) + 1) ⌝ }
     requires { ⌜ GoesOn (now words) × (Fitting (now marks) (now body) × (depth < 4294967296)) ⌝ }
-    ensures { λ r. ⌜ Turns alone tail (now (queue .entry)) r (now (depths .exit)) (now (queue .exit)) (follow (now (depths .entry)) (take tail (now (queue .entry))) (lookOf (knownBy (moveIn (now (words .entry))) (listOf (now («list_ids» .entry)) (now (counts .entry)) (now (flags .entry))) (directoryOf (now (ids .entry)) (now (parameters .entry)) (now (given .entry)))) (now (marks .entry)) (now (body .entry)) maximum offset depth)) ⌝ }
+    ensures { λ r. ⌜ Turns alone tail (now (queue .entry)) r (now (depths .exit)) (now (queue .exit)) (follow (now (depths .entry)) (take tail (now (queue .entry))) (lookOf (knownBy (moveIn (now (words .entry))) (now (hints .entry)) (listOf (now («list_ids» .entry)) (now (counts .entry)) (now (flags .entry))) (directoryOf (now (ids .entry)) (now (parameters .entry)) (now (given .entry)))) (now (marks .entry)) (now (body .entry)) maximum offset depth)) ⌝ }
 {
     let seen = look(
         words,
         marks,
         body,
+        hints,
         list_ids,
         counts,
         flags,
@@ -214,6 +216,7 @@ pub(crate) fn walk(
     words: &[u16; 256],
     marks: &[u8],
     body: &[u8],
+    hints: &[u16],
     list_ids: &[u16],
     counts: &[u16],
     flags: &[u16],
@@ -224,7 +227,7 @@ pub(crate) fn walk(
 ) -> Walked
     requires { ⌜ (now depths ≡ begun (length (now body) + 1)) × ((length (now body) + 1 ≤ length (now queue)) × (length (now body) ≤ 65535)) ⌝ }
     requires { ⌜ GoesOn (now words) × Fitting (now marks) (now body) ⌝ }
-    ensures { λ r. ⌜ r ≡ walkOf (lookOf (knownBy (moveIn (now (words .entry))) (listOf (now («list_ids» .entry)) (now (counts .entry)) (now (flags .entry))) (directoryOf (now (ids .entry)) (now (parameters .entry)) (now (given .entry)))) (now (marks .entry)) (now (body .entry)) maximum) (length (now (body .entry)) + 1) ⌝ }
+    ensures { λ r. ⌜ r ≡ walkOf (lookOf (knownBy (moveIn (now (words .entry))) (now (hints .entry)) (listOf (now («list_ids» .entry)) (now (counts .entry)) (now (flags .entry))) (directoryOf (now (ids .entry)) (now (parameters .entry)) (now (given .entry)))) (now (marks .entry)) (now (body .entry)) maximum) (length (now (body .entry)) + 1) ⌝ }
 {
     let mut head: usize = 0;
     let mut tail: usize = 0;
@@ -239,6 +242,7 @@ pub(crate) fn walk(
             words,
             marks,
             body,
+            hints,
             list_ids,
             counts,
             flags,

@@ -181,3 +181,15 @@ no-turn op h =
       not-ret = λ e. differ (turns op) h (ap turns e);
       not-ret-void = λ e. differ (turns op) h (ap turns e);
     }
+
+abbrev isMethod : Move → Bool
+isMethod (Fixed e) = false
+isMethod Builtin = false
+isMethod Call = false
+isMethod Method = true
+
+-- only METHOD_CALL asks what a function gives back
+pub method-only : (op : ℕ) → moveOf op ≡ Method → op ≡ 0xF8
+unfolding moveOf instructionSet
+method-only op e =
+    eqb→eq op 0xF8 (then (isMethod (moveOf op)) (eqb op 0xF8) (found (λ o f. not (isMethod (moveFound f)) || eqb o 0xF8) instructionSet (λ o. tt) tt op) (ap isMethod e))

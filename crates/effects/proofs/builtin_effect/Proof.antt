@@ -7,8 +7,8 @@ use borrow.Author.Needs.{needs}
 use Rattle.effects.proofs.builtin_effect.Statement.{statement}
 use Rattle.effects.proofs.builtin_effect.Tie as tie
 
-lookup-requires : tie.Need-lookup-requires
-lookup-requires c κs = search needs
+look-up-requires : tie.Need-look-up-requires
+look-up-requires c κs = search needs
 
 enum-known-entry : tie.Need-enum-known-entry
 enum-known-entry c = search needs
@@ -21,12 +21,12 @@ enum-told c = search needs
 
 returns : tie.Need-returns
 unfolding builtinBy
-returns c = ap Known.Moves (c .new .ensures) ∙ sym (ap (onEntry _) (sym (c .before .before .before .before .lookup .ensures) ∙ c .before .before .entry .given .1))
+returns c = ap Known.Moves (c .new .ensures) ∙ sym (ap (onEntry _) (sym (c .before .before .before .before .look-up .ensures) ∙ c .before .before .entry .given .1))
 
 returns-2 : tie.Need-returns-2
 unfolding builtinBy
-returns-2 c = sym (ap (onEntry _) (sym (c .before .before .lookup .ensures) ∙ c .enum-told .given .1))
+returns-2 c = sym (ap (onEntry _) (sym (c .before .before .look-up .ensures) ∙ c .enum-told .given .1))
 
 pub builtin-effect-spec : {M : Type 1} → statement M
 builtin-effect-spec =
-    tie.close (tie.spec lookup-requires enum-known-entry new-requires enum-told returns returns-2)
+    tie.close (tie.spec look-up-requires enum-known-entry new-requires enum-told returns returns-2)

@@ -42,19 +42,19 @@ method-effect-requires c κs = search needs
 
 returns : tie.Need-returns
 unfolding knownBy
-returns c = sym (ap (moveBy _ _ _) (sym (c .before .before .before .move-in .ensures) ∙ c .before .source .given .1))
+returns c = sym (ap (moveBy _ _ _ _) (sym (c .before .before .before .move-in .ensures) ∙ c .before .source .given .1))
 
 returns-2 : tie.Need-returns-2
 unfolding knownBy
-returns-2 c = c .builtin-effect .ensures ∙ ap (builtinBy _) (c .before .builtin-of .ensures) ∙ sym (ap (moveBy _ _ _) (sym (c .before .before .before .before .move-in .ensures) ∙ c .before .before .enum-told .given .1))
+returns-2 c = c .builtin-effect .ensures ∙ ap (builtinBy _ _) (c .before .builtin-of .ensures) ∙ sym (ap (moveBy _ _ _ _) (sym (c .before .before .before .before .move-in .ensures) ∙ c .before .before .enum-told .given .1))
 
 returns-3 : tie.Need-returns-3
 unfolding knownBy
-returns-3 c = c .call-effect .ensures ∙ ap (callBy _ _) (c .before .callee-of .ensures) ∙ sym (ap (moveBy _ _ _) (sym (c .before .before .before .before .move-in .ensures) ∙ c .before .before .enum-told2 .given .1))
+returns-3 c = c .call-effect .ensures ∙ ap (callBy _ _) (c .before .callee-of .ensures) ∙ sym (ap (moveBy _ _ _ _) (sym (c .before .before .before .before .move-in .ensures) ∙ c .before .before .enum-told2 .given .1))
 
 returns-4 : tie.Need-returns-4
 unfolding knownBy
-returns-4 c = c .method-effect .ensures ∙ ap (methodBy _ _ _) (c .before .callee-of2 .ensures) ∙ sym (ap (moveBy _ _ _) (sym (c .before .before .before .before .move-in .ensures) ∙ c .before .before .enum-told3 .given .1))
+returns-4 c = c .method-effect .ensures ∙ ap (methodBy _ _ _) (c .before .callee-of2 .ensures) ∙ sym (ap (moveBy _ _ _ _) (sym (c .before .before .before .before .move-in .ensures) ∙ c .before .before .enum-told3 .given .1))
 
 pub effect-of-spec : {M : Type 1} → statement M
 effect-of-spec =

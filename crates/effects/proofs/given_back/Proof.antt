@@ -1,73 +1,32 @@
--- `effects::given_back` meets its contract. The invariant is `Filling`: what is left to fill, filled, is the whole column.
+-- `effects::given_back` meets its contract: filled where METHOD_CALL's byte is named, else as it was.
 -- Assumes nothing.
-use borrow.Author.Needs.{needs}
-use Prim.Native.Nat.{ℕ, _-_}
 use mathlib.Core.Path.{_≡_, _∙_, ap, sym}
-use native.Mathlib.Omega.{arith}
-use lib.ListN.{length, getD, set}
+use mathlib.Core.Bool.{Bool, cond}
 use Rattle.tables.specs.Packed.{sizeIn}
-use Rattle.effects.specs.Effects.{filled, givesBack}
-use Rattle.effects.proofs.Filling.{Filling, filling-none, filling-more, filling-all}
+use Rattle.effects.specs.Effects.{filled, givenBack}
+use borrow.Author.Needs.{needs}
 use Rattle.effects.proofs.given_back.Statement.{statement}
 use Rattle.effects.proofs.given_back.Tie as tie
 
-abbrev Inv-loop : tie.InvT-loop
-Inv-loop given₀ sizes offsets lengths code row₀ given row = Filling (λ k. givesBack (sizeIn sizes) code (getD offsets k 0) (getD lengths k 0)) (length offsets) given₀ row given
+names-method-requires : tie.Need-names-method-requires
+names-method-requires c κs = search needs
 
-abbrev μ-loop : tie.MeasureT-loop
-μ-loop given₀ sizes offsets lengths code row₀ given row = length offsets - row
+fill-given-requires : tie.Need-fill-given-requires
+fill-given-requires c κs = search needs
 
-loop-holds : tie.Need-loop-holds Inv-loop μ-loop
-loop-holds c = filling-none _ _ _
+same-length : tie.Need-same-length
+same-length c = search needs
 
-mul-gives-back : tie.Need-mul-gives-back Inv-loop μ-loop
-mul-gives-back c = search needs
+returns : tie.Need-returns
+unfolding givenBack
+returns c = let a = c .before .before .before .before .before .before .before .before .before .before .args in
+    c .before .before .fill-given .ensures ∙ sym (ap (λ (b : Bool). cond b (filled (sizeIn (a .sizes .now)) (a .offsets .now) (a .lengths .now) (a .code .now) (a .given .now)) (a .given .now)) (sym (c .before .before .before .before .before .names-method .ensures) ∙ c .before .before .before .before .if1 .taken))
 
-shared-slice-read-gives-back : tie.Need-shared-slice-read-gives-back Inv-loop μ-loop
-shared-slice-read-gives-back c = search needs
-
-usize-at-requires : tie.Need-usize-at-requires Inv-loop μ-loop
-usize-at-requires c κs = search needs
-
-gives-back-requires : tie.Need-gives-back-requires Inv-loop μ-loop
-gives-back-requires c κs = search needs
-
-put-u8-requires : tie.Need-put-u8-requires Inv-loop μ-loop
-put-u8-requires c κs = search needs
-
-add-row : tie.Need-add-row Inv-loop μ-loop
-add-row c = search needs
-
-loop-less : tie.Need-loop-less Inv-loop μ-loop
-loop-less c = search needs
-
-loop-again : tie.Need-loop-again Inv-loop μ-loop
-loop-again c = let l = c .before .before .before .before .before .before .before .before .loop in
-    let a = c .before .before .before .before .before .before .before .before .before .before .before .before .before .args in
-    let v = c .before .before .before .before .gives-back .ensures ∙ ap (givesBack (sizeIn (a .sizes .now)) (a .code .now) (getD (a .offsets .now) (l .row) 0)) (c .before .before .before .before .before .usize-at .ensures) in
-    filling-more _ (length (a .offsets .now)) _ (l .row) (l .given) (c .before .before .put-u8 .last .0) (l .inv) (c .before .before .before .before .before .before .before .loop-test .taken) (c .before .before .put-u8 .ensures ∙ ap (set (l .given) (l .row)) v)
-
-same-length : tie.Need-same-length Inv-loop μ-loop
-same-length c = c .before .loop .inv .same
-
-returns : tie.Need-returns Inv-loop μ-loop
-unfolding filled
-returns c = filling-all _ (length (c .before .before .before .before .before .before .args .offsets .now)) _ (c .before .loop .row) _ (c .before .loop .inv) (c .loop-test .left)
+returns-2 : tie.Need-returns-2
+unfolding givenBack
+returns-2 c = let a = c .before .before .before .before .before .before .args in
+    sym (ap (λ (b : Bool). cond b (filled (sizeIn (a .sizes .now)) (a .offsets .now) (a .lengths .now) (a .code .now) (a .given .now)) (a .given .now)) (sym (c .before .names-method .ensures) ∙ c .if1 .left))
 
 pub given-back-spec : {M : Type 1} → statement M
 given-back-spec =
-    tie.close
-    (tie.spec
-    Inv-loop
-    μ-loop
-    loop-holds
-    mul-gives-back
-    shared-slice-read-gives-back
-    usize-at-requires
-    gives-back-requires
-    put-u8-requires
-    add-row
-    loop-less
-    loop-again
-    same-length
-    returns)
+    tie.close (tie.spec names-method-requires fill-given-requires same-length returns returns-2)

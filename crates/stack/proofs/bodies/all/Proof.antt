@@ -14,13 +14,13 @@ use Rattle.stack.proofs.bodies.all.Statement.{statement}
 use Rattle.stack.proofs.bodies.all.Tie as tie
 
 abbrev Inv-loop : tie.InvT-loop
-Inv-loop marks₀ depths₀ queue₀ sizes words ids parameters maxima offsets lengths list-ids counts flags code given row₀ marks depths queue row = Going (sizeIn sizes) (knownBy (moveIn words) (listOf list-ids counts flags) (directoryOf ids parameters given)) (programOf (functionsOf ids parameters maxima offsets lengths) (listOf list-ids counts flags) code) marks₀ depths₀ queue₀ marks depths queue row
+Inv-loop marks₀ depths₀ queue₀ sizes words ids parameters maxima offsets lengths hints list-ids counts flags code given row₀ marks depths queue row = Going (sizeIn sizes) (knownBy (moveIn words) hints (listOf list-ids counts flags) (directoryOf ids parameters given)) (programOf (functionsOf ids parameters maxima offsets lengths) (listOf list-ids counts flags) code) marks₀ depths₀ queue₀ marks depths queue row
 
 abbrev μ-loop : tie.MeasureT-loop
-μ-loop marks₀ depths₀ queue₀ sizes words ids parameters maxima offsets lengths list-ids counts flags code given row₀ marks depths queue row = length ids - row
+μ-loop marks₀ depths₀ queue₀ sizes words ids parameters maxima offsets lengths hints list-ids counts flags code given row₀ marks depths queue row = length ids - row
 
 loop-holds : tie.Need-loop-holds Inv-loop μ-loop
-loop-holds c = going-first _ _ _ _ _ _ (c .before .before .before .before .before .before .before .before .before .before .before .before .before .pre .0 .0)
+loop-holds c = going-first _ _ _ _ _ _ (c .before .before .before .before .before .before .before .before .before .before .before .before .before .before .pre .0 .0)
 
 usize-at-requires : tie.Need-usize-at-requires Inv-loop μ-loop
 usize-at-requires c κs = search needs
@@ -37,13 +37,13 @@ u16-at-requires c κs = search needs
 one-requires : tie.Need-one-requires Inv-loop μ-loop
 one-requires c κs = let l = c .before .before .before .before .before .before .before .before .loop in
     let g = l .inv in
-    ((going-cleared _ _ _ _ _ _ (l .marks) (l .depths) (l .queue) (l .row) g, roomy-part (l .marks) (l .depths) (l .queue) (c .before .before .before .before .before .before .before .before .before .before .before .before .before .before .before .before .before .before .before .before .before .before .args .code .now) (c .before .before .before .before .before .before .usize-at .result) (c .before .before .before .before .before .usize-at2 .result) _ (c .before .before .before .before .part .ensures) (going-room _ _ _ _ _ _ (l .marks) (l .depths) (l .queue) (l .row) g _ (c .before .before .before .before .before .before .before .before .before .before .before .before .before .before .before .before .before .before .before .before .before .before .pre .0 .1))), c .before .before .before .before .before .before .before .before .before .before .before .before .before .before .before .before .before .before .before .before .before .before .pre .1)
+    ((going-cleared _ _ _ _ _ _ (l .marks) (l .depths) (l .queue) (l .row) g, roomy-part (l .marks) (l .depths) (l .queue) (c .before .before .before .before .before .before .before .before .before .before .before .before .before .before .before .before .before .before .before .before .before .before .before .args .code .now) (c .before .before .before .before .before .before .usize-at .result) (c .before .before .before .before .before .usize-at2 .result) _ (c .before .before .before .before .part .ensures) (going-room _ _ _ _ _ _ (l .marks) (l .depths) (l .queue) (l .row) g _ (c .before .before .before .before .before .before .before .before .before .before .before .before .before .before .before .before .before .before .before .before .before .before .before .pre .0 .1))), c .before .before .before .before .before .before .before .before .before .before .before .before .before .before .before .before .before .before .before .before .before .before .before .pre .1)
 
 enum-told : tie.Need-enum-told Inv-loop μ-loop
 enum-told c = search needs
 
 add-row : tie.Need-add-row Inv-loop μ-loop
-add-row c = omega (arith, c .before .before .before .before .before .before .before .before .before .before .before .before .before .before .before .before .loop-test .taken, c .before .before .before .before .before .before .before .before .before .before .before .before .before .before .before .before .before .before .before .before .before .before .before .before .before .before .before .before .before .before .before .good)
+add-row c = omega (arith, c .before .before .before .before .before .before .before .before .before .before .before .before .before .before .before .before .loop-test .taken, c .before .before .before .before .before .before .before .before .before .before .before .before .before .before .before .before .before .before .before .before .before .before .before .before .before .before .before .before .before .before .before .before .good)
 
 loop-less : tie.Need-loop-less Inv-loop μ-loop
 loop-less c = omega (arith, c .before .before .before .before .before .before .before .before .before .before .before .before .before .before .before .before .loop-test .taken)

@@ -18,33 +18,34 @@ slice-relend-prefix-run : tie.Need-slice-relend-prefix-run
 slice-relend-prefix-run c = search needs
 
 slice-aggregate-run : tie.Need-slice-aggregate-run
-slice-aggregate-run c = sym (length-take-le _ _ (c .before .before .before .before .before .before .before .before .before .before .before .pre .0 .1 .marks-room))
+slice-aggregate-run c = sym (length-take-le _ _ (c .before .before .before .before .before .before .before .before .before .before .before .before .pre .0 .1 .marks-room))
 
 slice-relend-prefix-run-2 : tie.Need-slice-relend-prefix-run-2
 slice-relend-prefix-run-2 c = search needs
 
 slice-aggregate-run-2 : tie.Need-slice-aggregate-run-2
-slice-aggregate-run-2 c = sym (length-take-le _ _ (c .before .before .before .before .before .before .before .before .before .before .before .before .pre .0 .1 .depths-room))
+slice-aggregate-run-2 c = sym (length-take-le _ _ (c .before .before .before .before .before .before .before .before .before .before .before .before .before .pre .0 .1 .depths-room))
 
 run-requires : tie.Need-run-requires
-run-requires c κs = let p = c .before .before .before .before .before .before .before .before .before .before .before .before .before .pre .0 in
-    ((take-zeros _ _ (p .0 .marks-zero) _ (p .1 .marks-room), (take-zeros _ _ (p .0 .depths-zero) _ (p .1 .depths-room), (p .1 .queue-room, p .1 .small))), c .before .before .before .before .before .before .before .before .before .before .before .before .before .pre .1)
+run-requires c κs = let p = c .before .before .before .before .before .before .before .before .before .before .before .before .before .before .pre .0 in
+    ((take-zeros _ _ (p .0 .marks-zero) _ (p .1 .marks-room), (take-zeros _ _ (p .0 .depths-zero) _ (p .1 .depths-room), (p .1 .queue-room, p .1 .small))), c .before .before .before .before .before .before .before .before .before .before .before .before .before .before .pre .1)
 
 slice-relend-prefix-clear-u8 : tie.Need-slice-relend-prefix-clear-u8
-slice-relend-prefix-clear-u8 c = search needs
+slice-relend-prefix-clear-u8 c = let a = c .before .before .before .before .before .before .before .before .before .before .before .before .before .before .before .before .before .before .before .before .before .args in
+    subst⁻¹ (λ (m : ℕ). length (a .body .now) ≤ m) (length-front (a .marks .now) (c .before .before .before .before .before .before .run .last .0) (length (a .body .now)) (c .before .before .before .before .before .before .run .kept .0)) (c .before .before .before .before .before .before .before .before .before .before .before .before .before .before .before .before .before .before .before .before .before .pre .0 .1 .marks-room)
 
 slice-aggregate-clear-u8 : tie.Need-slice-aggregate-clear-u8
-slice-aggregate-clear-u8 c = front _ _ (c .before .before .before .before .before .before .before .run .last .0) (c .before .before .before .before .before .before .before .before .before .before .before .before .before .before .before .before .before .before .before .before .before .pre .0 .1 .marks-room) (c .before .before .before .before .before .before .before .run .kept .0)
+slice-aggregate-clear-u8 c = front _ _ (c .before .before .before .before .before .before .before .run .last .0) (c .before .before .before .before .before .before .before .before .before .before .before .before .before .before .before .before .before .before .before .before .before .before .pre .0 .1 .marks-room) (c .before .before .before .before .before .before .before .run .kept .0)
 
 clear-u8-requires : tie.Need-clear-u8-requires
 clear-u8-requires c κs = search needs
 
 slice-relend-prefix-clear-u32 : tie.Need-slice-relend-prefix-clear-u32
-slice-relend-prefix-clear-u32 c = let a = c .before .before .before .before .before .before .before .before .before .before .before .before .before .before .before .before .before .before .before .before .before .before .before .before .args in
-    subst⁻¹ (λ (m : ℕ). length (a .body .now) + 1 ≤ m) (length-front (a .depths .now) (c .before .before .before .before .before .before .before .before .before .before .run .last .1 .0) (length (a .body .now) + 1) (c .before .before .before .before .before .before .before .before .before .before .run .kept .1 .0)) (c .before .before .before .before .before .before .before .before .before .before .before .before .before .before .before .before .before .before .before .before .before .before .before .before .pre .0 .1 .depths-room)
+slice-relend-prefix-clear-u32 c = let a = c .before .before .before .before .before .before .before .before .before .before .before .before .before .before .before .before .before .before .before .before .before .before .before .before .before .args in
+    subst⁻¹ (λ (m : ℕ). length (a .body .now) + 1 ≤ m) (length-front (a .depths .now) (c .before .before .before .before .before .before .before .before .before .before .run .last .1 .0) (length (a .body .now) + 1) (c .before .before .before .before .before .before .before .before .before .before .run .kept .1 .0)) (c .before .before .before .before .before .before .before .before .before .before .before .before .before .before .before .before .before .before .before .before .before .before .before .before .before .pre .0 .1 .depths-room)
 
 slice-aggregate-clear-u32 : tie.Need-slice-aggregate-clear-u32
-slice-aggregate-clear-u32 c = front _ _ (c .before .before .before .before .before .before .before .before .before .before .before .run .last .1 .0) (c .before .before .before .before .before .before .before .before .before .before .before .before .before .before .before .before .before .before .before .before .before .before .before .before .before .pre .0 .1 .depths-room) (c .before .before .before .before .before .before .before .before .before .before .before .run .kept .1 .0)
+slice-aggregate-clear-u32 c = front _ _ (c .before .before .before .before .before .before .before .before .before .before .before .run .last .1 .0) (c .before .before .before .before .before .before .before .before .before .before .before .before .before .before .before .before .before .before .before .before .before .before .before .before .before .before .pre .0 .1 .depths-room) (c .before .before .before .before .before .before .before .before .before .before .before .run .kept .1 .0)
 
 clear-u32-requires : tie.Need-clear-u32-requires
 clear-u32-requires c κs = search needs
@@ -59,7 +60,7 @@ same-length-3 : tie.Need-same-length-3
 same-length-3 c = search needs
 
 returns : tie.Need-returns
-returns c = let p = c .before .before .before .before .before .before .before .before .before .before .before .before .before .before .before .before .before .before .before .before .before .before .before .before .before .before .before .before .pre .0 in
+returns c = let p = c .before .before .before .before .before .before .before .before .before .before .before .before .before .before .before .before .before .before .before .before .before .before .before .before .before .before .before .before .before .pre .0 in
     let r = c .before .before .before .before .before .before .before .before .before .before .before .before .before .before .run in (
       r .ensures,
       (

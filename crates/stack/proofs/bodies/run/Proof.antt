@@ -24,35 +24,35 @@ enum-told : tie.Need-enum-told
 enum-told c = search needs
 
 slice-write-depths : tie.Need-slice-write-depths
-slice-write-depths c = omega (arith, length-zeros _ _ (c .before .before .before .before .before .before .before .before .before .before .before .before .before .before .before .before .pre .0 .1 .0))
+slice-write-depths c = omega (arith, length-zeros _ _ (c .before .before .before .before .before .before .before .before .before .before .before .before .before .before .before .before .before .pre .0 .1 .0))
 
 walk-requires : tie.Need-walk-requires
-walk-requires c κs = let p = c .before .before .before .before .before .before .before .before .before .before .before .before .before .before .before .before .before .before .before .pre in
-    ((begins-walk _ _ (p .0 .1 .0), (p .0 .1 .1 .0, p .0 .1 .1 .1)), (p .1, marks-fitting _ (c .before .before .before .before .before .before .before .before .before .before .before .before .before .before .before .before .before .before .before .args .body .now) (c .before .before .before .before .before .before .before .mark-starts .last .0) _ (c .before .before .before .before .before .before .before .mark-starts .ensures .1) (p .0 .0)))
+walk-requires c κs = let p = c .before .before .before .before .before .before .before .before .before .before .before .before .before .before .before .before .before .before .before .before .pre in
+    ((begins-walk _ _ (p .0 .1 .0), (p .0 .1 .1 .0, p .0 .1 .1 .1)), (p .1, marks-fitting _ (c .before .before .before .before .before .before .before .before .before .before .before .before .before .before .before .before .before .before .before .before .args .body .now) (c .before .before .before .before .before .before .before .mark-starts .last .0) _ (c .before .before .before .before .before .before .before .mark-starts .ensures .1) (p .0 .0)))
 
 same-length : tie.Need-same-length
 same-length c = search needs
 
 returns : tie.Need-returns
-returns c = body-stops _ _ (c .before .before .before .before .before .before .before .before .before .before .before .before .before .before .before .before .before .args .body .now) _ (Decoded.Unknown _ _) (sym (c .before .decoded .given .1) ∙ c .before .before .before .before .before .mark-starts .ensures .0)
+returns c = body-stops _ _ (c .before .before .before .before .before .before .before .before .before .before .before .before .before .before .before .before .before .before .args .body .now) _ (Decoded.Unknown _ _) (sym (c .before .decoded .given .1) ∙ c .before .before .before .before .before .mark-starts .ensures .0)
 
 same-length-2 : tie.Need-same-length-2
 same-length-2 c = search needs
 
 returns-2 : tie.Need-returns-2
-returns-2 c = body-stops _ _ (c .before .before .before .before .before .before .before .before .before .before .before .before .before .before .before .before .before .args .body .now) _ (Decoded.Truncated _ _) (sym (c .before .decoded2 .given .1) ∙ c .before .before .before .before .before .mark-starts .ensures .0)
+returns-2 c = body-stops _ _ (c .before .before .before .before .before .before .before .before .before .before .before .before .before .before .before .before .before .before .args .body .now) _ (Decoded.Truncated _ _) (sym (c .before .decoded2 .given .1) ∙ c .before .before .before .before .before .mark-starts .ensures .0)
 
 same-length-3 : tie.Need-same-length-3
 same-length-3 c = search needs
 
 same-length-4 : tie.Need-same-length-4
-same-length-4 c = c .before .before .before .before .walk .kept .0 ∙ length-set (c .before .before .before .before .before .before .before .before .before .before .before .before .before .before .before .before .before .before .before .before .before .before .before .before .args .depths .now) 0 1
+same-length-4 c = c .before .before .before .before .walk .kept .0 ∙ length-set (c .before .before .before .before .before .before .before .before .before .before .before .before .before .before .before .before .before .before .before .before .before .before .before .before .before .args .depths .now) 0 1
 
 same-length-5 : tie.Need-same-length-5
 same-length-5 c = search needs
 
 returns-3 : tie.Need-returns-3
-returns-3 c = c .before .before .before .before .walk .ensures ∙ body-walks _ _ (c .before .before .before .before .before .before .before .before .before .before .before .before .before .before .before .before .before .before .before .before .before .before .before .before .args .body .now) _ (c .before .before .before .before .before .before .before .before .before .before .before .before .mark-starts .last .0) _ (c .before .before .before .before .before .before .before .before .before .before .before .before .mark-starts .ensures .1) (c .before .before .before .before .before .before .before .before .before .before .before .before .before .before .before .before .before .before .before .before .before .before .before .before .pre .0 .0) (sym (c .before .before .before .before .before .before .before .before .enum-told .given .1) ∙ c .before .before .before .before .before .before .before .before .before .before .before .before .mark-starts .ensures .0)
+returns-3 c = c .before .before .before .before .walk .ensures ∙ body-walks _ _ (c .before .before .before .before .before .before .before .before .before .before .before .before .before .before .before .before .before .before .before .before .before .before .before .before .before .args .body .now) _ (c .before .before .before .before .before .before .before .before .before .before .before .before .mark-starts .last .0) _ (c .before .before .before .before .before .before .before .before .before .before .before .before .mark-starts .ensures .1) (c .before .before .before .before .before .before .before .before .before .before .before .before .before .before .before .before .before .before .before .before .before .before .before .before .before .pre .0 .0) (sym (c .before .before .before .before .before .before .before .before .enum-told .given .1) ∙ c .before .before .before .before .before .before .before .before .before .before .before .before .mark-starts .ensures .0)
 
 pub run-spec : {M : Type 1} → statement M
 run-spec =

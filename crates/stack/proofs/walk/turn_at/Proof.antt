@@ -11,7 +11,7 @@ look-requires : tie.Need-look-requires
 look-requires c κs = search needs
 
 follow-on-requires : tie.Need-follow-on-requires
-follow-on-requires c κs = (c .before .before .before .before .before .before .before .before .before .before .before .before .before .pre .0 .0, look-fits _ (c .before .before .before .before .before .before .before .before .before .before .before .before .before .args .marks .now) (c .before .before .before .before .before .before .before .before .before .before .before .before .before .args .body .now) (c .before .before .before .before .before .before .before .before .before .before .before .before .before .args .maximum) _ _ _ _ (c .before .before .before .before .before .before .before .before .before .before .before .before .before .pre .1 .1 .0) (c .before .before .before .before .before .before .before .before .before .before .before .before .before .pre .0 .1) (omega (arith, c .before .before .before .before .before .before .before .before .before .before .before .before .before .fits .maximum .fits)) (c .before .before .look .ensures))
+follow-on-requires c κs = (c .before .before .before .before .before .before .before .before .before .before .before .before .before .before .pre .0 .0, look-fits _ (c .before .before .before .before .before .before .before .before .before .before .before .before .before .before .args .marks .now) (c .before .before .before .before .before .before .before .before .before .before .before .before .before .before .args .body .now) (c .before .before .before .before .before .before .before .before .before .before .before .before .before .before .args .maximum) _ _ _ _ (c .before .before .before .before .before .before .before .before .before .before .before .before .before .before .pre .1 .1 .0) (c .before .before .before .before .before .before .before .before .before .before .before .before .before .before .pre .0 .1) (omega (arith, c .before .before .before .before .before .before .before .before .before .before .before .before .before .before .fits .maximum .fits)) (c .before .before .look .ensures))
 
 same-length : tie.Need-same-length
 same-length c = search needs

@@ -16,29 +16,29 @@ use Rattle.stack.proofs.walk.walk.Statement.{statement}
 use Rattle.stack.proofs.walk.walk.Tie as tie
 
 abbrev Inv-loop : tie.InvT-loop
-Inv-loop depths₀ queue₀ words marks body list-ids counts flags ids parameters given maximum head₀ tail₀ offset₀ depth₀ left₀ depths queue head tail offset depth left = Walking (lookOf (knownBy (moveIn words) (listOf list-ids counts flags) (directoryOf ids parameters given)) marks body maximum) (length body + 1) queue₀ depths queue head tail offset depth left
+Inv-loop depths₀ queue₀ words marks body hints list-ids counts flags ids parameters given maximum head₀ tail₀ offset₀ depth₀ left₀ depths queue head tail offset depth left = Walking (lookOf (knownBy (moveIn words) hints (listOf list-ids counts flags) (directoryOf ids parameters given)) marks body maximum) (length body + 1) queue₀ depths queue head tail offset depth left
 
 abbrev μ-loop : tie.MeasureT-loop
-μ-loop depths₀ queue₀ words marks body list-ids counts flags ids parameters given maximum head₀ tail₀ offset₀ depth₀ left₀ depths queue head tail offset depth left = left
+μ-loop depths₀ queue₀ words marks body hints list-ids counts flags ids parameters given maximum head₀ tail₀ offset₀ depth₀ left₀ depths queue head tail offset depth left = left
 
 add-left : tie.Need-add-left Inv-loop μ-loop
-add-left c = omega (arith, c .before .before .before .before .before .before .before .before .before .before .pre .0)
+add-left c = omega (arith, c .before .before .before .before .before .before .before .before .before .before .before .pre .0)
 
 loop-holds : tie.Need-loop-holds Inv-loop μ-loop
-loop-holds c = walking-first _ _ _ _ (c .before .before .before .before .before .before .before .before .before .before .pre .0 .0) (omega arith) (c .before .before .before .before .before .before .before .before .before .before .pre .0 .1 .0) (omega (arith, c .before .before .before .before .before .before .before .before .before .before .pre .0))
+loop-holds c = walking-first _ _ _ _ (c .before .before .before .before .before .before .before .before .before .before .before .pre .0 .0) (omega arith) (c .before .before .before .before .before .before .before .before .before .before .before .pre .0 .1 .0) (omega (arith, c .before .before .before .before .before .before .before .before .before .before .before .pre .0))
 
 sub-left : tie.Need-sub-left Inv-loop μ-loop
 sub-left c = search needs
 
 turn-at-requires : tie.Need-turn-at-requires Inv-loop μ-loop
 turn-at-requires c κs = let w = c .before .before .before .loop .inv in
-    ((w .ready, w .long), (c .before .before .before .before .before .before .before .before .before .before .before .before .before .before .pre .1 .0, (c .before .before .before .before .before .before .before .before .before .before .before .before .before .before .pre .1 .1, w .small)))
+    ((w .ready, w .long), (c .before .before .before .before .before .before .before .before .before .before .before .before .before .before .before .pre .1 .0, (c .before .before .before .before .before .before .before .before .before .before .before .before .before .before .before .pre .1 .1, w .small)))
 
 enum-known-turn : tie.Need-enum-known-turn Inv-loop μ-loop
 enum-known-turn c = search needs
 
 same-length : tie.Need-same-length Inv-loop μ-loop
-same-length c = c .before .before .before .before .before .before .before .turn-at .kept .0 ∙ c .before .before .before .before .before .before .before .before .before .before .before .loop .inv .long ∙ sym (length-begun _) ∙ sym (ap length (c .before .before .before .before .before .before .before .before .before .before .before .before .before .before .before .before .before .before .before .before .before .before .pre .0 .0))
+same-length c = c .before .before .before .before .before .before .before .turn-at .kept .0 ∙ c .before .before .before .before .before .before .before .before .before .before .before .loop .inv .long ∙ sym (length-begun _) ∙ sym (ap length (c .before .before .before .before .before .before .before .before .before .before .before .before .before .before .before .before .before .before .before .before .before .before .before .pre .0 .0))
 
 same-length-2 : tie.Need-same-length-2 Inv-loop μ-loop
 same-length-2 c = c .before .before .before .before .before .before .before .turn-at .kept .1 .0 ∙ c .before .before .before .before .before .before .before .before .before .before .before .loop .inv .same
@@ -64,7 +64,7 @@ enum-known-turn-3 : tie.Need-enum-known-turn-3 Inv-loop μ-loop
 enum-known-turn-3 c = search needs
 
 same-length-3 : tie.Need-same-length-3 Inv-loop μ-loop
-same-length-3 c = c .before .before .before .before .before .before .before .before .turn-at .kept .0 ∙ c .before .before .before .before .before .before .before .before .before .before .before .before .loop .inv .long ∙ sym (length-begun _) ∙ sym (ap length (c .before .before .before .before .before .before .before .before .before .before .before .before .before .before .before .before .before .before .before .before .before .before .before .pre .0 .0))
+same-length-3 c = c .before .before .before .before .before .before .before .before .turn-at .kept .0 ∙ c .before .before .before .before .before .before .before .before .before .before .before .before .loop .inv .long ∙ sym (length-begun _) ∙ sym (ap length (c .before .before .before .before .before .before .before .before .before .before .before .before .before .before .before .before .before .before .before .before .before .before .before .before .pre .0 .0))
 
 same-length-4 : tie.Need-same-length-4 Inv-loop μ-loop
 same-length-4 c = c .before .before .before .before .before .before .before .before .turn-at .kept .1 .0 ∙ c .before .before .before .before .before .before .before .before .before .before .before .before .loop .inv .same
@@ -85,7 +85,7 @@ add-head : tie.Need-add-head Inv-loop μ-loop
 add-head c = let l = c .before .before .before .before .before .before .before .before .before .before .before .before .before .before .before .before .loop in
     let t = c .before .before .before .before .before .before .before .before .before .before .before .before .turn-at in
     let g = rw (c .before .before .before .before .before .before .turn3 .given .1) at (t .ensures) in
-    omega (arith, tail-in (t .last .0) (t .last .1 .0) _ (g .1 .0), c .before .before .before .before .if1 .left, t .kept .1 .0, l .inv .same, c .before .before .before .before .before .before .before .before .before .before .before .before .before .before .before .before .before .before .before .before .before .before .before .before .before .before .before .good)
+    omega (arith, tail-in (t .last .0) (t .last .1 .0) _ (g .1 .0), c .before .before .before .before .if1 .left, t .kept .1 .0, l .inv .same, c .before .before .before .before .before .before .before .before .before .before .before .before .before .before .before .before .before .before .before .before .before .before .before .before .before .before .before .before .good)
 
 loop-less-2 : tie.Need-loop-less-2 Inv-loop μ-loop
 loop-less-2 c = search needs
@@ -97,7 +97,7 @@ loop-again-2 c = let l = c .before .before .before .before .before .before .befo
     walking-go _ _ _ (l .depths) (l .queue) (l .head) (l .tail) (l .offset) (l .depth) (l .left) (l .inv) (c .before .before .before .before .before .before .before .before .before .before .before .before .before .before .before .loop-test .taken) (t .last .0) (t .last .1 .0) _ (t .kept .0) (t .kept .1 .0) g _ _ (c .before .before .before .before .if1 .left) (c .before .before .place-at .ensures) (c .depth-at .ensures .0) (c .depth-at .ensures .1)
 
 same-length-5 : tie.Need-same-length-5 Inv-loop μ-loop
-same-length-5 c = c .before .loop .inv .long ∙ sym (length-begun _) ∙ sym (ap length (c .before .before .before .before .before .before .before .before .before .before .before .before .pre .0 .0))
+same-length-5 c = c .before .loop .inv .long ∙ sym (length-begun _) ∙ sym (ap length (c .before .before .before .before .before .before .before .before .before .before .before .before .before .pre .0 .0))
 
 same-length-6 : tie.Need-same-length-6 Inv-loop μ-loop
 same-length-6 c = c .before .loop .inv .same
