@@ -7,11 +7,11 @@ use tables::Effect;
 use tables::FunctionId;
 use tables::Move;
 ghost use mathlib.Core.Path.{_≡_};
+ghost use mathlib.Core.Bool.{true, cond};
+ghost use lib.Dec.{eqb};
 ghost use Rattle.tables.specs.Packed.{sizeIn, moveIn};
 ghost use Rattle.program.specs.Program.{listOf};
 ghost use Rattle.effects.specs.Effects.{Directory, directoryOf, builtinBy, callBy, methodBy, knownBy, filled, givesBack, namesMethod, givenBack};
-ghost use mathlib.Core.Bool.{true, cond};
-ghost use lib.Dec.{eqb};
 
 // BUILTIN takes its listed count and leaves 1.
 fn builtin_effect(hints: &[u16], list_ids: &[u16], counts: &[u16], flags: &[u16], id: u16) -> Known
