@@ -37,8 +37,8 @@ fn is_taken(input: Input) -> bool
     }
 }
 
-// Hints for the code list, where the code is long enough to hold lookups that they pay for: noting a row costs a twentieth of a lookup without.
-// Nothing is promised of them, since nothing hangs on them.
+// Hints for the code list, where the code is long enough to hold lookups that they pay for: every row is noted, be its id asked for or not, and
+// short programs were slower with hints. Nothing is promised of them, since nothing hangs on them.
 fn note_hints(hints: &mut [u16], list_ids: &[u16], bytes: usize) {
     if list_ids.len() / 4 + 256 <= bytes {
         codes::note_rows(hints, list_ids);
