@@ -4,22 +4,28 @@
 --     same-cells       cells that agree along a row hold the same callees
 --     entry-known      an entry that is in the directory has its row among the rows of the entries
 --     known-entry      and a row below 128 among them is an entry's
+--     row-known        the row of a place is its row
+--     known-row        and a row below 128 is that of a place which has it
 --     same-graph       graphs that agree on the 128 functions have the same visit
+--     tame-self        a tame function weighs no more than the pool
+--     tame-callee      and what it calls is tame within what it leaves of the pool
+--     tame-reached     and what it reaches is tame within the pool
 use mathlib.Core.Path.{_≡_, refl, ap, ap₂, _∙_, fun-ext}
 use mathlib.Core.Bool.{Bool}
 use mathlib.Core.List.{List, [], _∷_}
 use mathlib.Core.Logic.{inl, inr, ⊎-elim}
-use Prim.Native.Nat.{ℕ, zero, suc, _+_, _*_, _≤_, _<_}
+use Prim.Native.Nat.{ℕ, zero, suc, _+_, _-_, _*_, _≤_, _<_}
 use native.Mathlib.Omega.{arith}
 use lib.ListN.{length, getD}
 use Rattle.codes.specs.declared.Place.{Place}
 use Rattle.codes.specs.declared.Place.the-variants.{Row, Nowhere}
 use Rattle.program.specs.Seat.{seatOf}
 use Rattle.visit.specs.declared.Visited.{Visited}
-use Rattle.visit.specs.Graph.{Graph, Among}
+use Rattle.visit.specs.Graph.{Graph, Among, Calls, Chain, last, call, weigh, Reaches, same, more, Tame}
 use Rattle.visit.specs.Visit.{onward, largestOf, closes, opening, totalBy, totalOf, none, visitOf}
 use Rattle.visit.specs.Cells.{atCell, calleesFrom, calleesIn, rowAt, entryRows}
 use Rattle.visit.specs.Fuel.{callee-same}
+use Rattle.visit.specs.Chains.{longer}
 
 pub row-holds : (cells : List ℕ) (n place : ℕ) (gs : List ℕ) → length gs ≤ n
     → ((i : ℕ) → i < length gs → getD cells (place + i) 0 ≡ suc (getD gs i 0))
@@ -54,10 +60,17 @@ unfolding entryRows rowAt
 entry-known ids [] e f i q = i
 entry-known ids (x ∷ es) e f i q = ⊎-elim (λ z. inl (ap (λ (y : ℕ). rowAt (seatOf ids y)) z ∙ ap rowAt q)) (λ j. inr (entry-known ids es e f j q)) i
 
+pub row-known : (f : ℕ) → rowAt (Row f) ≡ f
+unfolding rowAt
+row-known f = refl
+
 row-of : (p : Place) (f : ℕ) → rowAt p ≡ f → f < 128 → p ≡ Row f
 unfolding rowAt
 row-of (Row g) f e h = ap Row e
 row-of Nowhere f e h = absurd (omega arith)
+
+pub known-row : (p : Place) (f : ℕ) → rowAt p ≡ f → f < 128 → p ≡ Row f
+known-row p f e h = row-of p f e h
 
 pub known-entry : (ids entries : List ℕ) (f : ℕ) → Among f (entryRows ids entries) → f < 128 → (e : ℕ) × Among e entries × (seatOf ids e ≡ Row f)
 unfolding entryRows
@@ -83,3 +96,18 @@ module _ (G H : Graph) (pool : ℕ) (calls : (f : ℕ) → f < 128 → G .calls 
   same-graph entries =
       ap (λ (callee : ℕ → Visited). largestOf callee entries 0)
       (fun-ext (callee-same none (totalBy G pool 128 none) (totalBy H pool 128 none) (λ g hg q. same-by 128 none g hg)))
+
+module _ (G : Graph) (pool : ℕ) where
+  pub tame-self : (f : ℕ) → Tame G pool f → G .weight f ≤ pool
+  unfolding weigh
+  tame-self f tame = omega (arith, tame (f ∷ []) last .1)
+
+  pub tame-callee : (f h : ℕ) → Tame G pool f → Calls G f h → Tame G (pool - G .weight f) h
+  unfolding weigh
+  tame-callee f h tame c p r = let t = tame (f ∷ p) (call c r) in (t .0 .1, omega (arith, t .1))
+
+  pub tame-reached : (f x : ℕ) → Tame G pool f → Reaches G f x → Tame G pool x
+  tame-reached f x tame s p r =
+      let l = longer G p s r in
+      let t = tame (l .whole) (l .chain) in
+      (l .distinct (t .0), omega (arith, t .1, l .light))
