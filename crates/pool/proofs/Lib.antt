@@ -1,3 +1,6 @@
+pub mod Ending
+pub mod Directory
+pub mod Accepting
 pub mod Ring
 pub mod Raising
 pub mod Listing

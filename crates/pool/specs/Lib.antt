@@ -1,3 +1,4 @@
+pub mod Accepts
 pub mod Plain
 pub mod Columns
 pub mod Pool
