@@ -51,3 +51,12 @@ module _ (walk : ℕ → Walked) (ids : List ℕ) where
   all-ended rest (suc left) row a =
       let e = a row (omega arith) (omega arith) in
       rw (e .2) (all-ended rest left (suc row) (λ k l h. a k (omega arith) (omega arith)))
+
+  -- up to a row whose walk did not end, the answer is what that row says
+  pub up-to : (rest : Verdict) (left row k : ℕ) (v : Verdict) → row ≤ k → k < row + left → ((j : ℕ) → row ≤ j → j < k → Ended j)
+      → ((after : Verdict) → onUsed (getD ids k 0) (usedOf (walk k)) after ≡ v) → functionsFrom walk ids rest left row ≡ v
+  up-to rest zero row k v l h a e = absurd (omega arith)
+  up-to rest (suc left) row k v l h a e =
+      ⊎-elim (λ w. rw w (e (functionsFrom walk ids rest left (suc k))))
+      (λ w. rw (a row (omega arith) w .2) (up-to rest left (suc row) k v w (omega arith) (λ j i g. a j (omega arith) g) e))
+      (eq-or-lt-of-le l)

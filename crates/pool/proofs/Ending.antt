@@ -60,6 +60,10 @@ module _ (sizes : ℕ → ℕ) (temps : Temps) (opens : Opens) (pool : ℕ) (bod
   unfolding bodyWalk
   body-crowded e = decoded-crowded (endOf (walkBy sizes body 0)) alone e
 
+  pub crowded-body : endOf (walkBy sizes body 0) ≡ Decoded.Whole → alone ≡ crowded → bodyWalk sizes temps opens pool body ≡ crowded
+  unfolding bodyWalk
+  crowded-body d e = ap (λ (o : Decoded). onDecoded o alone) d ∙ e
+
   pub body-undecodable : bodyWalk sizes temps opens pool body ≡ undecodable
       → (endOf (walkBy sizes body 0) ≡ Decoded.Whole → ⊥) ⊎ ((endOf (walkBy sizes body 0) ≡ Decoded.Whole) × (alone ≡ undecodable))
   unfolding bodyWalk

@@ -1,6 +1,8 @@
 pub mod Ending
 pub mod Directory
 pub mod Accepting
+pub mod Opening
+pub mod Naming
 pub mod Ring
 pub mod Raising
 pub mod Listing

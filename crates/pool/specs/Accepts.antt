@@ -5,6 +5,9 @@
 --     callGraph         callees and weights, as the walks of the bodies found them
 --     Entered, Reached  the row of an entry; a chain of calls leads there from one
 --     PoolSound         accepted
+--     Overruns          20: a function that an entry reaches, and its heaviest chain of calls, which passes the pool
+--     Recurs            21: a function that an entry reaches, and that reaches itself
+--     FirstRow          22 and 23: the first function in directory order whose walk strays, or holds too much at once
 use Prim.Native.Nat.{ℕ, _+_, _*_, _≤_, _<_, min}
 use mathlib.Core.Path.{_≡_}
 use mathlib.Core.List.{List}
@@ -19,17 +22,35 @@ use Rattle.program.specs.declared.Input.{Input}
 use Rattle.program.specs.declared.Room.{Room}
 use Rattle.program.specs.Program.{PoolProgram, bodyOf}
 use Rattle.program.specs.Refusals.{poolInput}
-use Rattle.buffers.specs.Walk.{Usage, walked}
-use Rattle.visit.specs.Graph.{Graph, Among, Reaches, Tame}
-use Rattle.pool.specs.Pool.{graphOf, walkAt}
+use Rattle.buffers.specs.declared.Tread.{Tread}
+use Rattle.buffers.specs.declared.Way.{Way}
+use Rattle.buffers.specs.Tread.{treadOf}
+use Rattle.buffers.specs.Walk.{Usage, undecodable, walked}
+use Rattle.buffers.specs.Trodden.{Comes}
+use Rattle.buffers.specs.Longest.{longestOf}
+use Rattle.callees.specs.Callees.{tempsOf, opensOf}
+use Rattle.visit.specs.Graph.{Graph, Among, Calls, Reaches, Heaviest, Tame}
+use Rattle.pool.specs.Pool.{peakOf, graphOf, walkAt}
 
 -- how many functions the directory has
-abbrev pub rowsOf : PoolProgram → ℕ
-rowsOf q = length (q .program .functions .ids)
+abbrev pub functionCount : PoolProgram → ℕ
+functionCount q = length (q .program .functions .ids)
 
--- "decoded and walked": decoding comes to its end, and so does the walk, with numbers and with what it found
+-- the function with an id stands at a row: the first with it, and the only one in an input that is not refused
+abbrev pub Named : PoolProgram → ℕ → ℕ → Type 0
+Named q function row = placeOf (q .program .functions .ids) function ≡ Place.Row row
+
+-- 01's rules of the temp buffers in the body at a row
+abbrev pub ruleAt : PoolProgram → ℕ → ℕ → ℕ → Tread
+ruleAt q row = treadOf (tempsOf q) (opensOf q) (marksOf sizeOf (bodyOf (q .program) row)) (bodyOf (q .program) row) (q .pool)
+
+-- decoding comes to the body's end
+abbrev pub Decodes : PoolProgram → ℕ → Type 0
+Decodes q row = endOf (walkBy sizeOf (bodyOf (q .program) row) 0) ≡ Decoded.Whole
+
+-- "decoded and walked": and so does the walk, with numbers and with what it found
 pub record Walks (q : PoolProgram) (row : ℕ) : Type 0 where
-  pub decodes : endOf (walkBy sizeOf (bodyOf (q .program) row) 0) ≡ Decoded.Whole
+  pub decodes : Decodes q row
   pub numbers : List ℕ
   pub found : Usage
   pub ends : walkAt q row ≡ walked numbers found
@@ -48,5 +69,47 @@ Reached q row = (f : ℕ) × Entered q f × Reaches (callGraph q) f row
 -- than the pool
 pub record PoolSound (q : PoolProgram) (room : Room) (cells : ℕ) : Type 0 where
   pub taken : poolInput q room cells ≡ Input.Taken
-  pub walks : (row : ℕ) → row < rowsOf q → Walks q row
+  pub walks : (row : ℕ) → row < functionCount q → Walks q row
   pub chains : (f : ℕ) → Entered q f → Tame (callGraph q) (q .pool) f
+
+-- 20: "a total above the pool gives 20 at the peak offset", "reported as at most 65,535"
+pub record Overruns (q : PoolProgram) (function offset depth declared : ℕ) : Type 0 where
+  pub walks : (row : ℕ) → row < functionCount q → Walks q row
+  pub row : ℕ
+  pub named : Named q function row
+  pub reached : Reached q row
+  pub peak : offset ≡ peakOf (walkAt q row)
+  pub pool : declared ≡ q .pool
+  pub total : ℕ
+  pub heaviest : Heaviest (callGraph q) row total
+  pub reported : depth ≡ min 65535 total
+  pub passes : q .pool < depth
+
+-- 21: "A callee still open gives 21 with its id"; it is called by a function that it reaches
+pub record Recurs (q : PoolProgram) (function : ℕ) : Type 0 where
+  pub walks : (row : ℕ) → row < functionCount q → Walks q row
+  pub row : ℕ
+  pub named : Named q function row
+  pub reached : Reached q row
+  pub caller : ℕ
+  pub onward : Reaches (callGraph q) row caller
+  pub back : Calls (callGraph q) caller row
+
+-- the first row in directory order of which something holds: all earlier walks came to their end
+pub record FirstRow (q : PoolProgram) (Holds : ℕ → Type 0) (function : ℕ) : Type 0 where
+  pub row : ℕ
+  pub named : Named q function row
+  pub earlier : (j : ℕ) → j < row → Walks q j
+  pub holds : Holds row
+
+-- "Undecodable: decoding stops, or a branch reached has an illegal target"
+abbrev pub Strays : PoolProgram → ℕ → Type 0
+Strays q row = (Decodes q row → ⊥) ⊎ ((offset : ℕ) × (held : ℕ) × Comes (ruleAt q row) offset held × (ruleAt q row offset held .way ≡ Way.Astray))
+
+-- 22. A path of which the walk found a larger number instead is not walked: so that a path strays is not enough
+abbrev pub Undecodable : PoolProgram → ℕ → Type 0
+Undecodable q row = (walkAt q row ≡ undecodable) × Strays q row
+
+-- 23: "exactly when a walk would hold more than 2 x body length + 2 entries at once"
+abbrev pub Crowds : PoolProgram → ℕ → Type 0
+Crowds q row = Decodes q row × (2 * length (bodyOf (q .program) row) + 2 < longestOf (ruleAt q row) (q .pool) (length (bodyOf (q .program) row) + 1))
