@@ -7,6 +7,7 @@
 --     row-known        the row of a place is its row
 --     known-row        and a row below 128 is that of a place which has it
 --     same-graph       graphs that agree on the 128 functions have the same visit
+--     reaches-on       what is called from what is reached is reached
 --     tame-self        a tame function weighs no more than the pool
 --     tame-callee      and what it calls is tame within what it leaves of the pool
 --     tame-reached     and what it reaches is tame within the pool
@@ -96,6 +97,10 @@ module _ (G H : Graph) (pool : ℕ) (calls : (f : ℕ) → f < 128 → G .calls 
   same-graph entries =
       ap (λ (callee : ℕ → Visited). largestOf callee entries 0)
       (fun-ext (callee-same none (totalBy G pool 128 none) (totalBy H pool 128 none) (λ g hg q. same-by 128 none g hg)))
+
+pub reaches-on : (G : Graph) (f x y : ℕ) → Reaches G f x → Calls G x y → Reaches G f y
+reaches-on G f _ y same c = more c same
+reaches-on G f x y (more {h = h} d r) c = more d (reaches-on G h x y r c)
 
 module _ (G : Graph) (pool : ℕ) where
   pub tame-self : (f : ℕ) → Tame G pool f → G .weight f ≤ pool
