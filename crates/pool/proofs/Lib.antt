@@ -3,6 +3,7 @@ pub mod Directory
 pub mod Accepting
 pub mod Opening
 pub mod Naming
+pub mod Sheets
 pub mod Ring
 pub mod Raising
 pub mod Listing

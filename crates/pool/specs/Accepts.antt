@@ -5,13 +5,15 @@
 --     callGraph         callees and weights, as the walks of the bodies found them
 --     Entered, Reached  the row of an entry; a chain of calls leads there from one
 --     PoolSound         accepted
+--     Sheet             what acceptance gives for a row, by numbers of buffers that dominate the body's paths
+--     Paths             and for a row that an entry reaches, by its paths
 --     Overruns          20: a function that an entry reaches, and its heaviest chain of calls, which passes the pool
 --     Recurs            21: a function that an entry reaches, and that reaches itself
 --     FirstRow          22 and 23: the first function in directory order whose walk strays, or holds too much at once
-use Prim.Native.Nat.{ℕ, _+_, _*_, _≤_, _<_, min}
+use Prim.Native.Nat.{ℕ, suc, _+_, _*_, _≤_, _<_, min}
 use mathlib.Core.Path.{_≡_}
 use mathlib.Core.List.{List}
-use mathlib.Core.Logic.{_⊎_}
+use mathlib.Core.Logic.{_⊎_, _↔_}
 use lib.ListN.{length, getD}
 use Rattle.tables.specs.Set.{sizeOf}
 use Rattle.flow.specs.declared.starts.Decoded.{Decoded}
@@ -26,6 +28,7 @@ use Rattle.buffers.specs.declared.Tread.{Tread}
 use Rattle.buffers.specs.declared.Way.{Way}
 use Rattle.buffers.specs.Tread.{treadOf}
 use Rattle.buffers.specs.Walk.{Usage, undecodable, walked}
+use Rattle.buffers.specs.Meaning.{Dominates}
 use Rattle.buffers.specs.Trodden.{Comes}
 use Rattle.buffers.specs.Longest.{longestOf}
 use Rattle.callees.specs.Callees.{tempsOf, opensOf}
@@ -40,9 +43,12 @@ functionCount q = length (q .program .functions .ids)
 abbrev pub Named : PoolProgram → ℕ → ℕ → Type 0
 Named q function row = placeOf (q .program .functions .ids) function ≡ Place.Row row
 
--- 01's rules of the temp buffers in the body at a row
+-- 01's rules of the temp buffers in the body at a row, at any pool and at the program's
+abbrev pub ruleUnder : PoolProgram → ℕ → ℕ → ℕ → ℕ → Tread
+ruleUnder q pool row = treadOf (tempsOf q) (opensOf q) (marksOf sizeOf (bodyOf (q .program) row)) (bodyOf (q .program) row) pool
+
 abbrev pub ruleAt : PoolProgram → ℕ → ℕ → ℕ → Tread
-ruleAt q row = treadOf (tempsOf q) (opensOf q) (marksOf sizeOf (bodyOf (q .program) row)) (bodyOf (q .program) row) (q .pool)
+ruleAt q = ruleUnder q (q .pool)
 
 -- decoding comes to the body's end
 abbrev pub Decodes : PoolProgram → ℕ → Type 0
@@ -71,6 +77,30 @@ pub record PoolSound (q : PoolProgram) (room : Room) (cells : ℕ) : Type 0 wher
   pub taken : poolInput q room cells ≡ Input.Taken
   pub walks : (row : ℕ) → row < functionCount q → Walks q row
   pub chains : (f : ℕ) → Entered q f → Tame (callGraph q) (q .pool) f
+
+-- what acceptance gives for the body at a row, whether an entry reaches it or not: it decodes to its end, its marks fit, and the numbers of its walk
+-- dominate; what it opens at an offset that has a number it calls. Its weight is at most the pool and 1, and within the pool where an entry reaches it
+pub record Sheet (q : PoolProgram) (row : ℕ) : Type 0 where
+  pub decodes : Decodes q row
+  pub fits : (offset : ℕ) → offset < length (bodyOf (q .program) row)
+      → offset + getD (marksOf sizeOf (bodyOf (q .program) row)) offset 0 ≤ length (bodyOf (q .program) row)
+  pub numbers : List ℕ
+  pub found : Usage
+  pub ends : walkAt q row ≡ walked numbers found
+  pub dominates : Dominates (ruleAt q row) numbers found
+  pub weighs : callGraph q .weight row ≡ found .weight
+  pub small : found .weight ≤ q .pool + 1
+  pub light : Reached q row → found .weight ≤ q .pool
+  pub calls : (offset held callee : ℕ) → getD numbers offset 0 ≡ suc held → ruleAt q row offset held .opens ≡ suc callee → Calls (callGraph q) row callee
+
+-- and for the body at a row that an entry reaches, over all its paths from offset 0 with 0 buffers: none comes to an illegal target; its weight is the
+-- largest sum that any makes, at any pool, so also past the place where this pool would end it; it calls exactly what they open
+pub record Paths (q : PoolProgram) (row : ℕ) : Type 0 where
+  pub straight : (offset held : ℕ) → Comes (ruleAt q row) offset held → ruleAt q row offset held .way ≡ Way.Astray → ⊥
+  pub sums : (pool offset held : ℕ) → Comes (ruleUnder q pool row) offset held → ruleUnder q pool row offset held .sum ≤ callGraph q .weight row
+  pub made : ((callGraph q .weight row ≡ 0) × (peakOf (walkAt q row) ≡ 0))
+      ⊎ ((held : ℕ) × Comes (ruleAt q row) (peakOf (walkAt q row)) held × (ruleAt q row (peakOf (walkAt q row)) held .sum ≡ callGraph q .weight row))
+  pub calls : (callee : ℕ) → Calls (callGraph q) row callee ↔ ((offset : ℕ) × (held : ℕ) × Comes (ruleAt q row) offset held × (ruleAt q row offset held .opens ≡ suc callee))
 
 -- 20: "a total above the pool gives 20 at the peak offset", "reported as at most 65,535"
 pub record Overruns (q : PoolProgram) (function offset depth declared : ℕ) : Type 0 where
