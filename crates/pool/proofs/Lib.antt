@@ -4,6 +4,7 @@ pub mod Accepting
 pub mod Opening
 pub mod Naming
 pub mod Sheets
+pub mod Examples
 pub mod Ring
 pub mod Raising
 pub mod Listing
