@@ -2,7 +2,7 @@
 -- calls repeat a function or weigh more than the pool. The directory row by row (Directory.antt), each body by its walk's own theorems (Ending.antt),
 -- and the chains by the visit's theorem, whose entries are exactly the rows of the entries that are in the directory.
 -- Assumes nothing. The pool is a u16, so at most 65,535, of which the definition over any numbers knows nothing: it is said as a hypothesis.
-use Prim.Native.Nat.{ℕ, zero, suc, _+_, _≤_, _<_}
+use Prim.Native.Nat.{ℕ, _≤_, _<_}
 use native.Mathlib.Omega.{arith}
 use mathlib.Core.Path.{_≡_, refl, sym, subst, ap, _∙_}
 use mathlib.Core.Logic.{_↔_, _⊎_, inl, inr, ⊎-elim}
@@ -16,12 +16,11 @@ use Rattle.program.specs.declared.Input.{Input}
 use Rattle.program.specs.declared.Room.{Room}
 use Rattle.program.specs.Program.{PoolProgram, bodyOf}
 use Rattle.program.specs.Refusals.{poolInput}
-use Rattle.program.specs.Taken.{PoolTaken, pool-taken}
-use Rattle.buffers.specs.declared.Used.{Used}
+use Rattle.program.specs.Taken.{pool-taken}
 use Rattle.buffers.specs.Walk.{undecodable, crowded, usedOf}
 use Rattle.callees.specs.Callees.{tempsOf, opensOf}
 use Rattle.visit.specs.declared.Visited.{Visited}
-use Rattle.visit.specs.Graph.{Among, Tame}
+use Rattle.visit.specs.Graph.{Among}
 use Rattle.visit.specs.Visit.{visitOf}
 use Rattle.visit.specs.Cells.{rowAt}
 use Rattle.visit.specs.Laws.{row-known, known-row}

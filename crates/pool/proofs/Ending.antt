@@ -9,9 +9,8 @@ use mathlib.Core.List.{List}
 use lib.ListN.{length, getD}
 use Rattle.cells.specs.Zeros.{zeros, length-zeros, any-zero}
 use Rattle.flow.specs.declared.starts.Decoded.{Decoded}
-use Rattle.flow.specs.Walk.{walkBy, endOf, markAll, marksOf}
+use Rattle.flow.specs.Walk.{walkBy, endOf, marksOf}
 use Rattle.flow.specs.Next as next
-use Rattle.buffers.specs.declared.Tread.{Tread}
 use Rattle.buffers.specs.declared.Used.{Used}
 use Rattle.buffers.specs.Tread.{Temps, Opens, treadOf}
 use Rattle.buffers.specs.Walk.{Usage, Walked, undecodable, crowded, unfinished, walked, walkOf, usedOf}

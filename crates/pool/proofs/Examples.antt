@@ -1,7 +1,7 @@
 -- 01's pool examples (the end of "Bench examples"), in a single table under a single statement, computed from the definition: functions 1, 2, .. with
 -- these bodies, no parameters, no list rows, no descriptors, and all the scratch that 01 asks for.
 -- Assumes nothing.
-use Prim.Native.Nat.{ℕ, zero, suc, _+_, _*_}
+use Prim.Native.Nat.{ℕ, suc, _+_, _*_}
 use mathlib.Core.Path.{_≡_, refl}
 use mathlib.Core.List.{List, [], _∷_, _++_}
 use lib.ListN.{length}
@@ -81,15 +81,15 @@ abbrev codeOf : List (List ℕ) → List ℕ
 codeOf [] = []
 codeOf (body ∷ bodies) = body ++ codeOf bodies
 
-abbrev programme : Example → PoolProgram
-programme e =
+abbrev asProgram : Example → PoolProgram
+asProgram e =
     poolProgramOf
     (programOf (functionsOf (idsFrom 1 (e .bodies)) (noughts (e .bodies)) (noughts (e .bodies)) (offsetsFrom 0 (e .bodies)) (lengthsOf (e .bodies))) (listOf [] [] []) (codeOf (e .bodies)))
     (descriptorsOf [] []) (e .entries) (e .pool)
 
 abbrev answered : Example → Fields
 answered e =
-    fieldsOf (poolAnswer (programme e)
+    fieldsOf (poolAnswer (asProgram e)
     (roomOf (length (codeOf (e .bodies))) (length (codeOf (e .bodies)) + 1) (2 * length (codeOf (e .bodies)) + 2) (2 * length (codeOf (e .bodies)) + 2)) 16384)
 
 pub Hold : List Example → Type 0

@@ -6,7 +6,7 @@
 --     names-cycle          21: a function that an entry reaches and that reaches itself
 --     names-undecodable    22: the first function whose decoding stops, or whose walk comes to an illegal target
 --     names-queue-full     23: the first function whose walk would hold more entries at once than there is room for
-use Prim.Native.Nat.{ℕ, suc, _+_, _*_, _≤_, _<_, min}
+use Prim.Native.Nat.{ℕ, _+_, _*_, _≤_, _<_}
 use native.Mathlib.Omega.{arith}
 use mathlib.Core.Path.{_≡_, refl, sym, ap, _∙_}
 use mathlib.Core.Logic.{_↔_, _⊎_, inl, inr, ⊎-elim}
@@ -14,7 +14,6 @@ use mathlib.Core.List.{List}
 use lib.ListN.{length, getD}
 use Rattle.tables.specs.Set.{sizeOf}
 use Rattle.flow.specs.Walk.{marksOf}
-use Rattle.codes.specs.declared.Place.{Place}
 use Rattle.codes.specs.LookupLaws.{place-row, place-in, place-has}
 use Rattle.program.specs.declared.Input.{Input}
 use Rattle.program.specs.declared.Room.{Room}
@@ -28,10 +27,10 @@ use Rattle.callees.specs.Callees.{tempsOf, opensOf}
 use Rattle.visit.specs.declared.Visited.{Visited}
 use Rattle.visit.specs.Theorems as visiting
 use Rattle.pool.specs.declared.Verdict.{Verdict}
-use Rattle.pool.specs.Pool.{peakOf, onVisited, entriesOf, walkAt, onUsed, poolAnswer}
-use Rattle.pool.specs.Accepts.{functionCount, Named, Walks, callGraph, Overruns, Recurs, FirstRow, Strays, Undecodable, Crowds}
+use Rattle.pool.specs.Pool.{peakOf, onVisited, entriesOf, walkAt, poolAnswer}
+use Rattle.pool.specs.Accepts.{functionCount, Named, callGraph, Overruns, Recurs, FirstRow, Strays, Undecodable, Crowds}
 use Rattle.pool.proofs.Ending.{marks-fit, body-undecodable, body-crowded, crowded-body}
-use Rattle.pool.proofs.Accepting.{pool-below, among-entered, visited, visitAnswer, Answers, visits, strays, crowds, answers, first-answer}
+use Rattle.pool.proofs.Accepting.{pool-below, among-entered, visited, Answers, visits, strays, crowds, answers, first-answer}
 use Rattle.pool.proofs.Opening.{reached-inside}
 
 module _ (q : PoolProgram) where

@@ -3,7 +3,7 @@
 -- Assumes nothing.
 use Prim.Native.Nat.{ℕ, suc, _+_, _-_, _*_, _≤_, _<_}
 use native.Mathlib.Omega.{arith}
-use mathlib.Core.Path.{_≡_, refl, sym, ap, _∙_}
+use mathlib.Core.Path.{_≡_, refl}
 use mathlib.Core.Bool.{Bool, true, false, cond}
 use mathlib.Core.Logic.{_⊎_, inl, inr, ⊎-elim}
 use mathlib.Core.List.{List, [], _∷_}
@@ -25,7 +25,7 @@ use Rattle.buffers.proofs.Theorems.{callees-met}
 use Rattle.callees.specs.Callees.{cellAt, blockBy, openBy, opensBy, tempsOf, opensOf}
 use Rattle.visit.specs.Graph.{Among, Calls, Reaches, same, more}
 use Rattle.pool.specs.Pool.{rowsIn, walkAt}
-use Rattle.pool.specs.Accepts.{functionCount, callGraph, Entered, Reached}
+use Rattle.pool.specs.Accepts.{functionCount, callGraph, Reached}
 use Rattle.pool.proofs.Ending.{marks-fit, body-walked}
 
 -- ---- cells

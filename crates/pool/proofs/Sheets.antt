@@ -1,28 +1,31 @@
--- What an accepted program's bodies are, for the run theorem: every row has its sheet, and a row that an entry reaches has its paths. Each body by the
--- theorems of its walk, which ended; its weight is within the pool where an entry reaches it, since it is the weight of a chain of calls from there; a
--- cell that it opens is a callee's row and 1, and no call leads out of the directory (Opening.antt).
+-- What walks that ended found, and what an accepted program's bodies are, for the run theorem: every row has its sheet, and a row that an entry reaches
+-- has its paths. Each body by the theorems of its walk, which ended; its weight is within the pool where an entry reaches it, since a chain of calls
+-- from there weighs no less; a cell that it opens is a callee's row and 1, and no call leads out of the directory (Opening.antt).
 -- Assumes nothing.
+--     walk-finds          weight, peak offset and callees of any walk that ended, whatever the answer
+--     bodies-dominated    accepted: for each row, numbers that dominate, a weight of at most the pool and 1, and within it where an entry reaches the row
+--     bodies-exact        accepted: for each row that an entry reaches, its weight is the largest sum of its paths, and it calls what they open
+--     reached-tame        accepted: from each row that an entry reaches no chain of calls repeats a function or weighs more than the pool
 use Prim.Native.Nat.{ℕ, suc, _+_, _-_, _*_, _≤_, _<_}
 use native.Mathlib.Omega.{arith}
-use mathlib.Core.Path.{_≡_, refl, sym, subst, ap, _∙_}
-use mathlib.Core.Logic.{_↔_, _⊎_, inl, inr, ⊎-elim}
+use mathlib.Core.Path.{_≡_, sym, subst, ap, _∙_}
+use mathlib.Core.Logic.{_↔_}
 use mathlib.Core.List.{List}
-use lib.ListN.{length, getD}
+use lib.ListN.{length}
 use borrow.Author.Tests.{lt-ltb}
 use Rattle.tables.specs.Set.{sizeOf}
 use Rattle.flow.specs.Walk.{marksOf}
 use Rattle.program.specs.declared.Room.{Room}
 use Rattle.program.specs.Program.{PoolProgram, bodyOf}
 use Rattle.program.specs.Taken.{pool-taken}
-use Rattle.buffers.specs.Walk.{Usage, Walked, walked, walkOf, calleesOf}
+use Rattle.buffers.specs.Walk.{Usage, Walked, walked, calleesOf}
 use Rattle.buffers.specs.Meaning as meaning
-use Rattle.buffers.specs.Trodden.{Comes}
-use Rattle.buffers.proofs.Theorems.{dominates, weight-small, weight-exact, callees-exact, walked-straight}
+use Rattle.buffers.proofs.Theorems.{dominates, weight-largest, peak-first, callees-met, weight-small, weight-exact, callees-exact, walked-straight}
 use Rattle.callees.specs.Callees.{tempsOf, opensOf}
 use Rattle.visit.specs.Graph.{Among, Calls, Tame}
 use Rattle.visit.specs.Laws.{reaches-on, tame-self, tame-reached}
 use Rattle.pool.specs.Pool.{weightOf, peakOf, rowsIn, walkAt}
-use Rattle.pool.specs.Accepts.{functionCount, ruleAt, Walks, callGraph, Reached, PoolSound, Sheet, Paths}
+use Rattle.pool.specs.Accepts.{functionCount, Walks, callGraph, Finds, Reached, PoolSound, Sheet, Paths}
 use Rattle.pool.proofs.Ending.{marks-fit, body-walked}
 use Rattle.pool.proofs.Opening.{cell-row, row-of-cell, callee-inside, reached-inside}
 
@@ -52,6 +55,23 @@ module _ (q : PoolProgram) where
         back i =
             let k = callee-inside q row (walked numbers u) ends (suc callee) i in
             (subst (Among callee) (sym calls-are) (cell-row (u .callees) callee i), omega (arith, k .1))
+
+  -- what a walk that ended found
+  pub walk-finds : (row : ℕ) → row < functionCount q → (w : Walks q row) → Finds q row w
+  walk-finds row inside w =
+      let body = bodyOf (q .program) row in
+      let marks = marksOf sizeOf body in
+      let room = 2 * length body + 2 in
+      let d = body-walked sizeOf (tempsOf q) (opensOf q) (q .pool) body (w .numbers) (w .found) (w .ends) in
+      record {
+        weighs = weight-is row inside (w .numbers) (w .found) (w .ends);
+        peaks = ap peakOf (w .ends);
+        calls = calls-are row inside (w .numbers) (w .found) (w .ends);
+        small = weight-small (tempsOf q) (opensOf q) marks body (q .pool) room (marks-fit sizeOf body) (w .numbers) (w .found) (d .1);
+        largest = weight-largest (tempsOf q) (opensOf q) marks body (q .pool) room (marks-fit sizeOf body) (w .numbers) (w .found) (d .1);
+        first = peak-first (tempsOf q) (opensOf q) marks body (q .pool) room (marks-fit sizeOf body) (w .numbers) (w .found) (d .1);
+        met = callees-met (tempsOf q) (opensOf q) marks body (q .pool) room (marks-fit sizeOf body) (w .numbers) (w .found) (d .1);
+      }
 
   module _ (room : Room) (cells : ℕ) (sound : PoolSound q room cells) where
     few : functionCount q ≤ 128

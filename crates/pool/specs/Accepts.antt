@@ -3,6 +3,7 @@
 -- Assumes nothing: these are definitions.
 --     Walks             the body decodes to its end, and its walk gives neither 22 nor 23
 --     callGraph         callees and weights, as the walks of the bodies found them
+--     Finds             what weight, peak offset and callees of a walk are
 --     Entered, Reached  the row of an entry; a chain of calls leads there from one
 --     PoolSound         accepted
 --     Sheet             what acceptance gives for a row, by numbers of buffers that dominate the body's paths
@@ -27,13 +28,14 @@ use Rattle.program.specs.Refusals.{poolInput}
 use Rattle.buffers.specs.declared.Tread.{Tread}
 use Rattle.buffers.specs.declared.Way.{Way}
 use Rattle.buffers.specs.Tread.{treadOf}
-use Rattle.buffers.specs.Walk.{Usage, undecodable, walked}
+use Rattle.buffers.specs.Walk.{Entry, Usage, undecodable, walked}
 use Rattle.buffers.specs.Meaning.{Dominates}
-use Rattle.buffers.specs.Trodden.{Comes}
+use Rattle.buffers.specs.Meaning as meaning
+use Rattle.buffers.specs.Trodden.{madeAt, treadsOf, First, Met, Comes}
 use Rattle.buffers.specs.Longest.{longestOf}
 use Rattle.callees.specs.Callees.{tempsOf, opensOf}
 use Rattle.visit.specs.Graph.{Graph, Among, Calls, Reaches, Heaviest, Tame}
-use Rattle.pool.specs.Pool.{peakOf, graphOf, walkAt}
+use Rattle.pool.specs.Pool.{peakOf, rowsIn, graphOf, walkAt}
 
 -- how many functions the directory has
 abbrev pub functionCount : PoolProgram → ℕ
@@ -63,6 +65,22 @@ pub record Walks (q : PoolProgram) (row : ℕ) : Type 0 where
 
 abbrev pub callGraph : PoolProgram → Graph
 callGraph q = graphOf (walkAt q) (length (q .program .functions .ids))
+
+-- the places that the walk of the body at a row treads, in its order
+abbrev pub treadsAt : PoolProgram → ℕ → List Entry
+treadsAt q row =
+    treadsOf (ruleAt q row) (2 * length (bodyOf (q .program) row) + 2) (q .pool) (length (bodyOf (q .program) row) + 1)
+
+-- what a walk found, accepted or not: "Weight is the largest sum ever made, peak offset the first place it was made"; "Callees .. count where walked,
+-- in first-met order", each once, by their rows
+pub record Finds (q : PoolProgram) (row : ℕ) (w : Walks q row) : Type 0 where
+  pub weighs : callGraph q .weight row ≡ w .found .weight
+  pub peaks : peakOf (walkAt q row) ≡ w .found .peak
+  pub calls : callGraph q .calls row ≡ rowsIn (w .found .callees)
+  pub small : w .found .weight ≤ q .pool + 1
+  pub largest : (e : Entry) → meaning.Among e (treadsAt q row) → madeAt (ruleAt q row) e .sum ≤ w .found .weight
+  pub first : ((w .found .weight ≡ 0) × (w .found .peak ≡ 0)) ⊎ First (ruleAt q row) (treadsAt q row) (w .found .weight) (w .found .peak)
+  pub met : Met (ruleAt q row) (treadsAt q row) (w .found .callees)
 
 -- the row of an entry that is in the directory
 abbrev pub Entered : PoolProgram → ℕ → Type 0
