@@ -27,7 +27,7 @@ use Rattle.visit.specs.Laws.{row-known, known-row}
 use Rattle.visit.specs.Theorems.{accepted}
 use Rattle.pool.specs.declared.Verdict.{Verdict}
 use Rattle.pool.specs.Pool.{peakOf, onUsed, onVisited, programAnswer, entriesOf, walkAt, onInput, takenAnswer, poolAnswer}
-use Rattle.pool.specs.Accepts.{functionCount, Walks, callGraph, Entered, PoolSound}
+use Rattle.pool.specs.Accepts.{functionCount, WalkEnds, callGraph, Entered, PoolSound}
 use Rattle.pool.proofs.Ending.{body-walked, body-finished, used-walked, used-crowded, used-undecodable}
 use Rattle.pool.proofs.Directory.{Ended, From, all, stray, full, from, all-ended, up-to}
 
@@ -77,13 +77,13 @@ module _ (q : PoolProgram) where
   abbrev EndedAt : ℕ → Type 0
   EndedAt row = Ended (walkAt q) ids row
 
-  ended-walks : (row : ℕ) → EndedAt row → Walks q row
+  ended-walks : (row : ℕ) → EndedAt row → WalkEnds q row
   ended-walks row a =
       let w = used-walked (walkAt q row) (a .0) (a .1) (a .2) in
       let d = body-walked sizeOf (tempsOf q) (opensOf q) (q .pool) (bodyOf (q .program) row) (w .0) (w .1) (w .2) in
       record { decodes = d .0; numbers = w .0; found = w .1; ends = w .2 }
 
-  walks-ended : (row : ℕ) → Walks q row → EndedAt row
+  walks-ended : (row : ℕ) → WalkEnds q row → EndedAt row
   walks-ended row w = (w .found .weight, w .found .peak, ap usedOf (w .ends))
 
   -- the visit's answer
@@ -95,9 +95,9 @@ module _ (q : PoolProgram) where
 
   -- the three answers of an input that is taken
   pub data Answers : Verdict → Type 0 where
-    visits : ((row : ℕ) → row < functionCount q → Walks q row) → Answers visitAnswer
-    strays : (row : ℕ) → row < functionCount q → ((j : ℕ) → j < row → Walks q j) → walkAt q row ≡ undecodable → Answers (Verdict.Undecodable (getD ids row 0))
-    crowds : (row : ℕ) → row < functionCount q → ((j : ℕ) → j < row → Walks q j) → walkAt q row ≡ crowded → Answers (Verdict.QueueFull (getD ids row 0))
+    visits : ((row : ℕ) → row < functionCount q → WalkEnds q row) → Answers visitAnswer
+    strays : (row : ℕ) → row < functionCount q → ((j : ℕ) → j < row → WalkEnds q j) → walkAt q row ≡ undecodable → Answers (Verdict.Undecodable (getD ids row 0))
+    crowds : (row : ℕ) → row < functionCount q → ((j : ℕ) → j < row → WalkEnds q j) → walkAt q row ≡ crowded → Answers (Verdict.QueueFull (getD ids row 0))
 
   taken-answers : Answers (takenAnswer q)
   unfolding programAnswer
@@ -111,7 +111,7 @@ module _ (q : PoolProgram) where
       by _ (full k l h on e) = crowds k (omega arith) (λ j i. ended-walks j (on j (omega arith) i)) (used-crowded (walkAt q k) e)
 
   -- where every walk ended, the answer is the visit's
-  walks-visit : ((row : ℕ) → row < functionCount q → Walks q row) → takenAnswer q ≡ visitAnswer
+  walks-visit : ((row : ℕ) → row < functionCount q → WalkEnds q row) → takenAnswer q ≡ visitAnswer
   unfolding programAnswer
   walks-visit w = all-ended (walkAt q) ids visitAnswer (length ids) 0 (λ k l h. walks-ended k (w k (omega arith)))
 
@@ -123,12 +123,12 @@ module _ (q : PoolProgram) where
         let t = taken-by (poolInput q room cells) (takenAnswer q) v j e in
         (t .0, subst Answers (t .1) taken-answers)
 
-    pub taken-visit : poolInput q room cells ≡ Input.Taken → ((row : ℕ) → row < functionCount q → Walks q row) → poolAnswer q room cells ≡ visitAnswer
+    pub taken-visit : poolInput q room cells ≡ Input.Taken → ((row : ℕ) → row < functionCount q → WalkEnds q row) → poolAnswer q room cells ≡ visitAnswer
     unfolding poolAnswer
     taken-visit t w = ap (λ (i : Input). onInput i (takenAnswer q)) t ∙ walks-visit w
 
     -- up to a row whose walk did not end, the answer is what that row says
-    pub first-answer : poolInput q room cells ≡ Input.Taken → (row : ℕ) → row < functionCount q → ((j : ℕ) → j < row → Walks q j) → (v : Verdict)
+    pub first-answer : poolInput q room cells ≡ Input.Taken → (row : ℕ) → row < functionCount q → ((j : ℕ) → j < row → WalkEnds q j) → (v : Verdict)
         → ((after : Verdict) → onUsed (getD ids row 0) (usedOf (walkAt q row)) after ≡ v) → poolAnswer q room cells ≡ v
     unfolding poolAnswer programAnswer
     first-answer t row h on v e =

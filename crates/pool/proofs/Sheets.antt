@@ -25,7 +25,7 @@ use Rattle.callees.specs.Callees.{tempsOf, opensOf}
 use Rattle.visit.specs.Graph.{Among, Calls, Tame}
 use Rattle.visit.specs.Laws.{reaches-on, tame-self, tame-reached}
 use Rattle.pool.specs.Pool.{weightOf, peakOf, rowsIn, walkAt}
-use Rattle.pool.specs.Accepts.{functionCount, Walks, callGraph, Finds, Reached, PoolSound, Sheet, Paths}
+use Rattle.pool.specs.Accepts.{functionCount, WalkEnds, callGraph, Finds, Reached, PoolSound, Sheet, Paths}
 use Rattle.pool.proofs.Ending.{marks-fit, body-walked}
 use Rattle.pool.proofs.Opening.{cell-row, row-of-cell, callee-inside, reached-inside}
 
@@ -57,7 +57,7 @@ module _ (q : PoolProgram) where
             (subst (Among callee) (sym calls-are) (cell-row (u .callees) callee i), omega (arith, k .1))
 
   -- what a walk that ended found
-  pub walk-finds : (row : ℕ) → row < functionCount q → (w : Walks q row) → Finds q row w
+  pub walk-finds : (row : ℕ) → row < functionCount q → (w : WalkEnds q row) → Finds q row w
   walk-finds row inside w =
       let body = bodyOf (q .program) row in
       let marks = marksOf sizeOf body in

@@ -1,7 +1,7 @@
--- What the pool call's answers mean, without the visit and without a walk's queue: bodies whose walk ends, the graph of their calls, and its chains of
--- calls from the entries that are in the directory. Functions are spoken of by their rows in the directory.
+-- What the pool call's answers mean, without the visit: bodies whose walk ends, the graph of their calls, and its chains of calls from the entries that
+-- are in the directory. Functions are spoken of by their rows in the directory. A walk's queue is spoken of only in 23 and in what is met first.
 -- Assumes nothing: these are definitions.
---     Walks             the body decodes to its end, and its walk gives neither 22 nor 23
+--     WalkEnds          the body decodes to its end, and its walk gives neither 22 nor 23
 --     callGraph         callees and weights, as the walks of the bodies found them
 --     Finds             what weight, peak offset and callees of a walk are
 --     Entered, Reached  the row of an entry; a chain of calls leads there from one
@@ -57,7 +57,7 @@ abbrev pub Decodes : PoolProgram → ℕ → Type 0
 Decodes q row = endOf (walkBy sizeOf (bodyOf (q .program) row) 0) ≡ Decoded.Whole
 
 -- "decoded and walked": and so does the walk, with numbers and with what it found
-pub record Walks (q : PoolProgram) (row : ℕ) : Type 0 where
+pub record WalkEnds (q : PoolProgram) (row : ℕ) : Type 0 where
   pub decodes : Decodes q row
   pub numbers : List ℕ
   pub found : Usage
@@ -73,7 +73,7 @@ treadsAt q row =
 
 -- what a walk found, accepted or not: "Weight is the largest sum ever made, peak offset the first place it was made"; "Callees .. count where walked,
 -- in first-met order", each once, by their rows
-pub record Finds (q : PoolProgram) (row : ℕ) (w : Walks q row) : Type 0 where
+pub record Finds (q : PoolProgram) (row : ℕ) (w : WalkEnds q row) : Type 0 where
   pub weighs : callGraph q .weight row ≡ w .found .weight
   pub peaks : peakOf (walkAt q row) ≡ w .found .peak
   pub calls : callGraph q .calls row ≡ rowsIn (w .found .callees)
@@ -93,7 +93,7 @@ Reached q row = (f : ℕ) × Entered q f × Reaches (callGraph q) f row
 -- than the pool
 pub record PoolSound (q : PoolProgram) (room : Room) (cells : ℕ) : Type 0 where
   pub taken : poolInput q room cells ≡ Input.Taken
-  pub walks : (row : ℕ) → row < functionCount q → Walks q row
+  pub walks : (row : ℕ) → row < functionCount q → WalkEnds q row
   pub chains : (f : ℕ) → Entered q f → Tame (callGraph q) (q .pool) f
 
 -- what acceptance gives for the body at a row, whether an entry reaches it or not: it decodes to its end, its marks fit, and the numbers of its walk
@@ -122,7 +122,7 @@ pub record Paths (q : PoolProgram) (row : ℕ) : Type 0 where
 
 -- 20: "a total above the pool gives 20 at the peak offset", "reported as at most 65,535"
 pub record Overruns (q : PoolProgram) (function offset depth declared : ℕ) : Type 0 where
-  pub walks : (row : ℕ) → row < functionCount q → Walks q row
+  pub walks : (row : ℕ) → row < functionCount q → WalkEnds q row
   pub row : ℕ
   pub named : Named q function row
   pub reached : Reached q row
@@ -135,7 +135,7 @@ pub record Overruns (q : PoolProgram) (function offset depth declared : ℕ) : T
 
 -- 21: "A callee still open gives 21 with its id"; it is called by a function that it reaches
 pub record Recurs (q : PoolProgram) (function : ℕ) : Type 0 where
-  pub walks : (row : ℕ) → row < functionCount q → Walks q row
+  pub walks : (row : ℕ) → row < functionCount q → WalkEnds q row
   pub row : ℕ
   pub named : Named q function row
   pub reached : Reached q row
@@ -147,7 +147,7 @@ pub record Recurs (q : PoolProgram) (function : ℕ) : Type 0 where
 pub record FirstRow (q : PoolProgram) (Holds : ℕ → Type 0) (function : ℕ) : Type 0 where
   pub row : ℕ
   pub named : Named q function row
-  pub earlier : (j : ℕ) → j < row → Walks q j
+  pub earlier : (j : ℕ) → j < row → WalkEnds q j
   pub holds : Holds row
 
 -- "Undecodable: decoding stops, or a branch reached has an illegal target"
