@@ -8,7 +8,7 @@ use native.Mathlib.Omega.{arith}
 use native.Mathlib.Numerals.{add-one}
 use lib.ListN.{length, getD}
 use lib.Dec.{ltb, eqb}
-use borrow.Author.Tests.{lt-ltb, ltb-true, ltb-false, eqb-true}
+use borrow.Author.Tests.{lt-ltb, le-ltb, ltb-true, ltb-false, eqb-true}
 use Rattle.seven.specs.Forms.{by-test}
 use Rattle.file.specs.Stated.{Columns, Bench, roomOf}
 use Rattle.file.specs.Written.{rowAt, rowsFrom, tableNumbers, rowTable, functionTable, descriptorTable, entryTable, numbersIn}
@@ -44,44 +44,58 @@ pub fit-small : (n : ℕ) → n < 65536 → fit n ≡ n
 unfolding fit
 fit-small n h = rw (lt-ltb _ _ h)
 
--- the numbers of a table one by one are its rows
-module _ (c0 c1 c2 c3 c4 : List ℕ) where
-  rows-1 : (count i : ℕ) → listed c0 c1 c2 c3 c4 1 (count * 1) 0 i ≡ rowsFrom (c0 ∷ []) count i
-  unfolding listed cellOf nextIndex nextRow rowsFrom rowAt
-  rows-1 zero i = refl
-  rows-1 (suc count) i =
-      let e : suc count * 1 ≡ suc (count * 1) = omega arith in
-      rw e
-      (ap (λ (l : List ℕ). getD c0 i 0 ∷ l)
-      (ap (λ (r : ℕ). listed c0 c1 c2 c3 c4 1 (count * 1) 0 r) (add-one i) ∙ rows-1 count (suc i)))
+spare-small : (i : ℕ) → getD spare i 0 < 65536
+unfolding allSmall
+spare-small = smalls spare refl
 
-  rows-2 : (count i : ℕ) → listed c0 c1 c2 c3 c4 2 (count * 2) 0 i ≡ rowsFrom (c0 ∷ (c1 ∷ [])) count i
-  unfolding listed cellOf nextIndex nextRow rowsFrom rowAt
-  rows-2 zero i = refl
-  rows-2 (suc count) i =
-      let e : suc count * 2 ≡ suc (suc (count * 2)) = omega arith in
-      rw e
-      (ap (λ (l : List ℕ). getD c0 i 0 ∷ (getD c1 i 0 ∷ l))
-      (ap (λ (r : ℕ). listed c0 c1 c2 c3 c4 2 (count * 2) 0 r) (add-one i) ∙ rows-2 count (suc i)))
+-- the numbers of a table one by one are its rows, whatever its width: of five columns a narrower table has the first
+module _ (c0 c1 c2 c3 c4 : List ℕ) (a : (i : ℕ) → getD c3 i 0 < 65536) (b : (i : ℕ) → getD c4 i 0 < 65536) where
+  column : ℕ → List ℕ
+  column zero = c0
+  column (suc zero) = c1
+  column (suc (suc zero)) = c2
+  column (suc (suc (suc zero))) = c3
+  column (suc (suc (suc (suc k)))) = c4
 
-  rows-3 : (count i : ℕ) → listed c0 c1 c2 c3 c4 3 (count * 3) 0 i ≡ rowsFrom (c0 ∷ (c1 ∷ (c2 ∷ []))) count i
-  unfolding listed cellOf nextIndex nextRow rowsFrom rowAt
-  rows-3 zero i = refl
-  rows-3 (suc count) i =
-      let e : suc count * 3 ≡ suc (suc (suc (count * 3))) = omega arith in
-      rw e
-      (ap (λ (l : List ℕ). getD c0 i 0 ∷ (getD c1 i 0 ∷ (getD c2 i 0 ∷ l)))
-      (ap (λ (r : ℕ). listed c0 c1 c2 c3 c4 3 (count * 3) 0 r) (add-one i) ∙ rows-3 count (suc i)))
+  columnsFrom : ℕ → ℕ → List (List ℕ)
+  columnsFrom zero index = []
+  columnsFrom (suc left) index = column index ∷ columnsFrom left (suc index)
 
-  rows-5 : ((i : ℕ) → getD c3 i 0 < 65536) → ((i : ℕ) → getD c4 i 0 < 65536) → (count i : ℕ) →
-      listed c0 c1 c2 c3 c4 5 (count * 5) 0 i ≡ rowsFrom (c0 ∷ (c1 ∷ (c2 ∷ (c3 ∷ (c4 ∷ []))))) count i
-  unfolding listed cellOf nextIndex nextRow rowsFrom rowAt
-  rows-5 a b zero i = refl
-  rows-5 a b (suc count) i =
-      let e : suc count * 5 ≡ suc (suc (suc (suc (suc (count * 5))))) = omega arith in
-      rw (e, fit-small (getD c3 i 0) (a i), fit-small (getD c4 i 0) (b i))
-      (ap (λ (l : List ℕ). getD c0 i 0 ∷ (getD c1 i 0 ∷ (getD c2 i 0 ∷ (getD c3 i 0 ∷ (getD c4 i 0 ∷ l)))))
-      (ap (λ (r : ℕ). listed c0 c1 c2 c3 c4 5 (count * 5) 0 r) (add-one i) ∙ rows-5 a b count (suc i)))
+  cell-of : (index i : ℕ) → index < 5 → cellOf c0 c1 c2 c3 c4 index i ≡ getD (column index) i 0
+  unfolding cellOf column
+  cell-of zero i h = refl
+  cell-of (suc zero) i h = refl
+  cell-of (suc (suc zero)) i h = refl
+  cell-of (suc (suc (suc zero))) i h = fit-small (getD c3 i 0) (a i)
+  cell-of (suc (suc (suc (suc zero)))) i h = fit-small (getD c4 i 0) (b i)
+  cell-of (suc (suc (suc (suc (suc k))))) i h = absurd (omega arith)
+
+  -- the rest of a row from an index on, then the rows after it
+  rest-of-row : (left index width more i : ℕ) → index + suc left ≡ width → width ≤ 5 →
+      listed c0 c1 c2 c3 c4 width (suc left + more) index i ≡
+        rowAt (columnsFrom (suc left) index) i ++ listed c0 c1 c2 c3 c4 width more 0 (suc i)
+  unfolding listed nextIndex nextRow rowAt columnsFrom
+  rest-of-row zero index width more i e h =
+      let n : suc zero + more ≡ suc more = omega arith in
+      rw (n, cell-of index i (omega arith), le-ltb (index + 1) width (omega arith))
+      (ap (λ (r : ℕ). getD (column index) i 0 ∷ listed c0 c1 c2 c3 c4 width more 0 r) (add-one i))
+  rest-of-row (suc left) index width more i e h =
+      let n : suc (suc left) + more ≡ suc (suc left + more) = omega arith in
+      rw (n, cell-of index i (omega arith), lt-ltb (index + 1) width (omega arith), add-one index)
+      (ap (λ (l : List ℕ). getD (column index) i 0 ∷ l) (rest-of-row left (suc index) width more i (omega arith) h))
+
+  rows : (narrow : ℕ) (table : List (List ℕ)) → narrow < 5 → columnsFrom (suc narrow) 0 ≡ table → (count i : ℕ) →
+      listed c0 c1 c2 c3 c4 (suc narrow) (count * suc narrow) 0 i ≡ rowsFrom table count i
+  unfolding listed rowsFrom
+  rows narrow table h e zero i =
+      let n : 0 * suc narrow ≡ 0 = omega arith in
+      rw n
+  rows narrow table h e (suc count) i =
+      let n : suc count * suc narrow ≡ suc narrow + count * suc narrow = omega arith in
+      rw n
+      (rest-of-row narrow 0 (suc narrow) (count * suc narrow) i (omega arith) (omega arith)
+      ∙ (ap (λ (l : List ℕ). rowAt (columnsFrom (suc narrow) 0) i ++ l) (rows narrow table h e count (suc i))
+      ∙ ap (λ (t : List (List ℕ)). rowAt t i ++ rowsFrom table count (suc i)) e))
 
 -- what 31 leaves
 pub record Sound (p : Bench) : Type 0 where
@@ -117,7 +131,7 @@ sound p e =
     }
 
 pub numbers-same : (p : Bench) → refusedToWrite p ≡ false → allNumbers (p .pool) (p .tables) ≡ numbersIn p
-unfolding allNumbers counted numbersIn tableNumbers
+unfolding allNumbers counted numbersIn tableNumbers columnsFrom column
 numbers-same p e =
     let s : Sound p = sound p e in
     let t : Columns = p .tables in
@@ -127,8 +141,8 @@ numbers-same p e =
       fit-small (length (t .typeIds)) (omega (arith, s .descriptors .0)),
       fit-small (length (t .entries)) (omega (arith, s .entries)),
       fit-small (length (t .code)) (omega (arith, s .code)),
-      rows-3 (t .listIds) (t .listCounts) (t .listFlags) spare spare (length (t .listIds)) 0,
-      rows-5 (t .functionIds) (t .parameters) (t .maxima) (t .offsets) (t .lengths) (s .offsets) (s .lengths) (length (t .functionIds)) 0,
-      rows-2 (t .typeIds) (t .descriptorFunctions) spare spare spare (length (t .typeIds)) 0,
-      rows-1 (t .entries) spare spare spare spare (length (t .entries)) 0,
+      rows (t .listIds) (t .listCounts) (t .listFlags) spare spare spare-small spare-small 2 (rowTable p) (omega arith) refl (length (t .listIds)) 0,
+      rows (t .functionIds) (t .parameters) (t .maxima) (t .offsets) (t .lengths) (s .offsets) (s .lengths) 4 (functionTable p) (omega arith) refl (length (t .functionIds)) 0,
+      rows (t .typeIds) (t .descriptorFunctions) spare spare spare spare-small spare-small 1 (descriptorTable p) (omega arith) refl (length (t .typeIds)) 0,
+      rows (t .entries) spare spare spare spare spare-small spare-small 0 (entryTable p) (omega arith) refl (length (t .entries)) 0,
     )
