@@ -1,5 +1,5 @@
 // Finds document 000 and writes the `mod` lines by which its files are compiled unchanged, from where they lie.
-// With the feature `bench` it also links the probes' static library and the bare hop in C.
+// With the feature `bench` it also links the probes' static libraries and the bare hop in C.
 
 use std::env;
 use std::fs;
@@ -17,7 +17,9 @@ fn main() {
     println!("cargo:rerun-if-changed=build.rs");
     write_modules(&root, &out);
     if env::var_os("CARGO_FEATURE_BENCH").is_some() {
-        link_probes(&root, &out);
+        println!("cargo:rustc-link-search=native={}", out.display());
+        link_probes(&root, &out, "probe", "PROBE_ARCHIVE");
+        link_probes(&root, &out, "file_probe", "FILE_PROBE_ARCHIVE");
         link_hop(&root, &out);
     }
 }
@@ -39,17 +41,16 @@ fn write_modules(root: &Path, out: &Path) {
     fs::write(out.join("document.rs"), lines).unwrap();
 }
 
-/// PROBE_ARCHIVE must be made for the processor that this runs on; the one that `rt staticlib` writes is for x86-64.
-fn link_probes(root: &Path, out: &Path) {
-    println!("cargo:rerun-if-env-changed=PROBE_ARCHIVE");
-    let given = env::var("PROBE_ARCHIVE").unwrap_or_else(|_| "target/staticlib/libprobe.a".into());
+/// The archive that the variable names must be made for the processor that this runs on; the one that `rt staticlib` writes is for x86-64.
+fn link_probes(root: &Path, out: &Path, name: &str, variable: &str) {
+    println!("cargo:rerun-if-env-changed={variable}");
+    let given = env::var(variable).unwrap_or_else(|_| format!("target/staticlib/lib{name}.a"));
     let archive = root.join(given);
     println!("cargo:rerun-if-changed={}", archive.display());
-    if let Err(why) = fs::copy(&archive, out.join("libprobe.a")) {
-        panic!("{}: {why} (PROBE_ARCHIVE)", archive.display());
+    if let Err(why) = fs::copy(&archive, out.join(format!("lib{name}.a"))) {
+        panic!("{}: {why} ({variable})", archive.display());
     }
-    println!("cargo:rustc-link-search=native={}", out.display());
-    println!("cargo:rustc-link-lib=static=probe");
+    println!("cargo:rustc-link-lib=static={name}");
 }
 
 fn link_hop(root: &Path, out: &Path) {

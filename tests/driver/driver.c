@@ -1,57 +1,15 @@
-// The driver of the comparison: reads requests on standard input, asks the probes, writes their answers (PROTOCOL.md).
+// The driver of the comparison: asks the probes what each request wants to know (PROTOCOL.md).
 
+#include "pipe.h"
 #include "probe.h"
 
-#include <stdio.h>
-#include <stdlib.h>
 #include <string.h>
 
 enum { SIZES = 1, BODY = 2, LIST = 3, LOOKUP = 4, COLUMNS = 5, PROGRAMS = 6 };
 
-// No request is longer; a longer one is an asker that has lost its place.
-#define LONGEST (1u << 24)
-
-struct bytes {
-    uint8_t *at;
-    size_t length;
-    size_t room;
-};
-
-static struct bytes request, answer, marks;
+static struct bytes marks;
 static uint16_t *ids, *counts, *flags;
 static size_t rows;
-
-static void stop(const char *why) {
-    fprintf(stderr, "driver: %s\n", why);
-    exit(2);
-}
-
-// At least one byte, so that an empty slice has an address too.
-static void *room_for(void *old, size_t size) {
-    void *new = realloc(old, size ? size : 1);
-    if (!new)
-        stop("no memory");
-    return new;
-}
-
-static void resize(struct bytes *b, size_t length) {
-    if (!b->at || length > b->room) {
-        b->room = 2 * length + 64;
-        b->at = room_for(b->at, b->room);
-    }
-    b->length = length;
-}
-
-static void put(uint64_t number, size_t width) {
-    size_t at = answer.length;
-    resize(&answer, at + width);
-    for (size_t i = 0; i < width; i++)
-        answer.at[at + i] = (uint8_t)(number >> (8 * i));
-}
-
-static uint16_t word_at(const uint8_t *at) {
-    return (uint16_t)(at[0] | at[1] << 8);
-}
 
 static void answer_sizes(void) {
     for (unsigned op = 0; op < 256; op++)
@@ -106,29 +64,6 @@ static void answer_lookup(const uint8_t *bytes, size_t n) {
         put(probe_lookup(ids, rows, counts, rows, flags, rows, word_at(bytes + at)), 4);
 }
 
-// A request's bytes, read from the front.
-struct reader {
-    const uint8_t *at;
-    size_t left;
-};
-
-static const uint8_t *next_bytes(struct reader *from, size_t n) {
-    const uint8_t *at = from->at;
-    if (n > from->left)
-        stop("a program that is cut");
-    from->at += n;
-    from->left -= n;
-    return at;
-}
-
-static uint64_t next_number(struct reader *from, size_t width) {
-    const uint8_t *at = next_bytes(from, width);
-    uint64_t number = 0;
-    for (size_t i = 0; i < width; i++)
-        number |= (uint64_t)at[i] << (8 * i);
-    return number;
-}
-
 // A column of a program, in cells as wide as its numbers.
 struct words {
     uint16_t *at;
@@ -175,13 +110,6 @@ static void lend(int column, size_t cells) {
     lent[column] = cells;
     resize(&scratch[column], cells * width[column] + BEHIND);
     memset(scratch[column].at, FILL, scratch[column].length);
-}
-
-static int all_are(uint8_t byte, const uint8_t *at, size_t n) {
-    uint8_t other = 0;
-    for (size_t i = 0; i < n; i++)
-        other |= at[i] ^ byte;
-    return !other;
 }
 
 enum { UNTOUCHED, ZERO, NEITHER, TWO_NUMBERS };
@@ -273,43 +201,14 @@ static void answer_programs(struct reader from) {
         answer_program(&from, number % 4);
 }
 
-static void read_all(void *to, size_t n) {
-    if (n && fread(to, 1, n, stdin) != n)
-        stop("the input ends within a request");
-}
-
-static void write_answer(void) {
-    uint8_t length[4];
-    for (int i = 0; i < 4; i++)
-        length[i] = (uint8_t)(answer.length >> (8 * i));
-    if (fwrite(length, 1, 4, stdout) != 4 || fwrite(answer.at, 1, answer.length, stdout) != answer.length)
-        stop("an answer could not be written");
-}
-
-int main(void) {
-    int kind;
-    resize(&answer, 0);
-    while ((kind = getchar()) != EOF) {
-        uint8_t head[4];
-        read_all(head, 4);
-        size_t n = word_at(head) | (size_t)word_at(head + 2) << 16;
-        if (n > LONGEST)
-            stop("a request that is too long");
-        resize(&request, n);
-        read_all(request.at, n);
-        answer.length = 0;
-        switch (kind) {
-        case SIZES: answer_sizes(); break;
-        case BODY: answer_body(request.at, n); break;
-        case LIST: answer_list(request.at, n); break;
-        case LOOKUP: answer_lookup(request.at, n); break;
-        case COLUMNS: answer_columns((struct reader){request.at, n}); break;
-        case PROGRAMS: answer_programs((struct reader){request.at, n}); break;
-        default: stop("a request of no known kind");
-        }
-        write_answer();
+void answer_request(int kind, const uint8_t *bytes, size_t n) {
+    switch (kind) {
+    case SIZES: answer_sizes(); break;
+    case BODY: answer_body(bytes, n); break;
+    case LIST: answer_list(bytes, n); break;
+    case LOOKUP: answer_lookup(bytes, n); break;
+    case COLUMNS: answer_columns((struct reader){bytes, n}); break;
+    case PROGRAMS: answer_programs((struct reader){bytes, n}); break;
+    default: stop("a request of no known kind");
     }
-    if (ferror(stdin) || fflush(stdout))
-        stop("standard input or output failed");
-    return 0;
 }

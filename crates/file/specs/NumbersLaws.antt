@@ -73,7 +73,7 @@ module _ (c0 c1 c2 c3 c4 : List ℕ) (a : (i : ℕ) → getD c3 i 0 < 65536) (b 
   -- the rest of a row from an index on, then the rows after it
   rest-of-row : (left index width more i : ℕ) → index + suc left ≡ width → width ≤ 5 →
       listed c0 c1 c2 c3 c4 width (suc left + more) index i ≡
-        rowAt (columnsFrom (suc left) index) i ++ listed c0 c1 c2 c3 c4 width more 0 (suc i)
+      rowAt (columnsFrom (suc left) index) i ++ listed c0 c1 c2 c3 c4 width more 0 (suc i)
   unfolding listed nextIndex nextRow rowAt columnsFrom
   rest-of-row zero index width more i e h =
       let n : suc zero + more ≡ suc more = omega arith in

@@ -158,14 +158,20 @@ fn lookup() -> Report {
     Ok(format!("{:<28} {a}  {b}  {c}\n", format!("{ROW_LIMIT} rows")))
 }
 
+/// The heads of three contenders' columns.
+fn heads(names: [&str; 3]) -> String {
+    let [a, b, c] = names.map(|name| format!("{name:>19}"));
+    let pair = format!("{:>9} {:>9}", "best", "median");
+    format!("{:<28} {a}  {b}  {c}\n{:<28} {pair}  {pair}  {pair}\n", "", "")
+}
+
+pub fn file() -> Report {
+    crate::bench_file::run(heads)
+}
+
 pub fn run() -> Report {
     let sizes: [u8; 256] = std::array::from_fn(|op| opcode::instruction_size(op as u8) as u8);
     let every: Vec<u8> = (0..=u8::MAX).filter(|&op| opcode::is_assigned(op)).collect();
-    let heads = |names: [&str; 3]| {
-        let [a, b, c] = names.map(|name| format!("{name:>19}"));
-        let pair = format!("{:>9} {:>9}", "best", "median");
-        format!("{:<28} {a}  {b}  {c}\n{:<28} {pair}  {pair}  {pair}\n", "", "")
-    };
     let mut report = format!(
         "decoding a body of {LENGTH} bytes, microseconds, {ROUNDS} runs (marks of probe_starts cleared outside of the time)\n"
     );
@@ -180,5 +186,7 @@ pub fn run() -> Report {
     report += &lookup()?;
     report += "\n";
     report += &crate::bench_stack::run()?;
+    report += "\n";
+    report += &file()?;
     Ok(report)
 }

@@ -25,12 +25,17 @@ mod balanced;
 #[cfg(feature = "bench")]
 mod bench;
 #[cfg(feature = "bench")]
+mod bench_file;
+#[cfg(feature = "bench")]
 mod bench_stack;
 mod bodies;
 mod cases;
 mod compare;
 mod differences;
 mod export;
+mod file;
+mod file_format;
+mod files;
 mod observe;
 mod pipe;
 mod program;
@@ -61,8 +66,9 @@ const USAGE: &str = "usage: differential COMMAND
   stack SEED COUNT [--exhaustive3] -- DRIVER..
                                     the stack check of document 000 and of a driver, on random programs and on every body
                                     of up to two bytes, or three
+  file SEED COUNT -- DRIVER..       the bench file's reader and writer of this crate and of a driver, on random files
   differences                       what document 000 says on the inputs of docs/DIFFERENCES.md
-  bench                             timings (built with --features bench)
+  bench [file]                      timings, all or of the bench file (built with --features bench)
 DIR is crates/replay/data where it is not given.";
 
 fn main() -> ExitCode {
@@ -100,9 +106,14 @@ fn run(words: &[&str]) -> Report {
         ["stack", seed, count, "--exhaustive3", "--", driver @ ..] if !driver.is_empty() => {
             stack::run(number(seed)?, number(count)?, true, driver)
         }
+        ["file", seed, count, "--", driver @ ..] if !driver.is_empty() => {
+            file::run(number(seed)?, number(count)?, driver)
+        }
         ["differences"] => differences::run(),
         #[cfg(feature = "bench")]
         ["bench"] => bench::run(),
+        #[cfg(feature = "bench")]
+        ["bench", "file"] => bench::file(),
         _ => Err(USAGE.into()),
     }
 }
