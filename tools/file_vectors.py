@@ -1,6 +1,6 @@
 #!/usr/bin/env python3
-# file_vectors.py: writes crates/file_vectors/stdin and stdout, from the repository's root. The expected lines come from a reader written
-# here from document 01 alone; it stands outside the proofs.
+# file_vectors.py: writes crates/file_vectors/stdin and stdout, from the repository's root. The expected lines come from a reader and a
+# writer written here from document 01 alone; they stand outside the proofs.
 import os
 
 from benchtext import form
@@ -71,6 +71,112 @@ def line(file):
     return "%s %d" % (text, h)
 
 
+# A case for the writer, as crates/file_vectors/src/written.rt takes it: the columns are fronts of these arrays.
+WORDS, BODIES, CODES, OUT = 6145, 129, 12289, 70000
+TABLES = [(0, 3, 6144), (3, 8, 128), (8, 10, 256), (10, 11, 32)]
+
+
+class Case:
+    def __init__(self, lengths, room, pool=0, first=0, step=0, row=0, offset=1, length=2):
+        self.lengths, self.pool, self.first, self.step = list(lengths), pool, first, step
+        self.row, self.offset, self.length = row, offset, length
+        file = self.file()
+        # a room below 0 counts from the file's length
+        self.room = room if room > 0 or file is None else len(file) + room
+
+    def columns(self):
+        words = [(self.first + i * self.step) % 65536 for i in range(WORDS)]
+        offsets, lengths = [1] * BODIES, [2] * BODIES
+        offsets[self.row], lengths[self.row] = self.offset, self.length
+        sources = [words] * 6 + [offsets, lengths] + [words] * 3 + [[9] * CODES]
+        return [source[:n] for source, n in zip(sources, self.lengths)]
+
+    def file(self):
+        columns = self.columns()
+        out = form(self.pool)
+        for begin, end, limit in TABLES:
+            table = columns[begin:end]
+            if len(table[0]) > limit or any(len(column) != len(table[0]) for column in table):
+                return None
+            out += form(len(table[0]))
+            for row in zip(*table):
+                if max(row) > 65535:
+                    return None
+                out += b"".join(map(form, row))
+        if len(columns[11]) > 12288:
+            return None
+        return out + form(len(columns[11])) + bytes(columns[11])
+
+    def script(self):
+        numbers = [self.pool, self.first, self.step] + self.lengths + [self.row]
+        for wide in (self.offset, self.length, self.room):
+            numbers += [wide % 65536, wide // 65536]
+        return b"".join(n.to_bytes(2, "little") for n in numbers)
+
+    def line(self):
+        file, out = self.file(), [7] * OUT
+        if file is None:
+            text = "REFUSED 31"
+        elif len(file) > min(self.room, 65536):
+            text = "NO ROOM"
+        else:
+            text = "WROTE %d" % len(file)
+            out[:len(file)] = file
+        h = 0
+        for value in out:
+            h = (h * 31 + value) % 1000000007
+        return "%s %d" % (text, h)
+
+
+def cases():
+    out = []
+
+    def add(*arguments, **named):
+        out.append(Case(*arguments, **named))
+
+    few = [2, 2, 2, 3, 3, 3, 3, 3, 1, 1, 2, 5]
+    none = [0] * 12
+    for room in (0, -1, 65536, 70000, 1):
+        add(few, room, pool=300, first=100, step=60)
+        add(none, room)
+    # each number's form, and one byte less than it needs
+    for n in (0, 1, 127, 128, 129, 16383, 16384, 16385, 65534, 65535):
+        add(few, 0, pool=n, first=n)
+        add(few, -1, pool=n, first=n)
+        add(none, 0, pool=n)
+        add(none, -1, pool=n)
+    # each column one cell shorter than its table, and one longer; also where there would be no room
+    for k in range(12):
+        for more in (-1, 1):
+            add(few[:k] + [few[k] + more] + few[k + 1:], 0 if k > 9 else 70000, first=7)
+            add(few[:k] + [few[k] + more] + few[k + 1:], 3, first=7)
+    # each table at its limit and one past it, alone and in its first column only
+    for begin, end, limit in TABLES + [(11, 12, 12288)]:
+        for count in (limit - 1, limit, limit + 1):
+            rows = [count if begin <= k < end else 0 for k in range(12)]
+            add(rows, 0 if count <= limit else 70000, first=1)
+            add(rows, -1 if count <= limit else 1, first=1)
+            add([count if k == begin else few[k] for k in range(12)], 70000, first=1)
+    # an offset and a length at 65,535 and above it, in the first and the last row
+    for row, rows in ((0, 3), (2, 3), (0, 128), (127, 128)):
+        lengths = few[:3] + [rows] * 5 + few[8:]
+        for value in (65535, 65536, 65537, 16777216, 4294967295):
+            add(lengths, 0 if value == 65535 else 70000, row=row, offset=value)
+            add(lengths, 0 if value == 65535 else 70000, row=row, length=value)
+    # in a row behind the last nothing is looked at
+    add(few, 0, row=3, offset=65536, length=65536)
+    # files of 65,535, 65,536 and 65,537 bytes, into as many bytes, one less, and more than any file has
+    for code in (12283, 12284, 12285):
+        for room in (0, -1, 65536, 65535, 70000):
+            add([5916] * 3 + [0] * 8 + [code], room, pool=1, first=16384, step=1)
+    # everything full, in the longest forms
+    full = [6144] * 3 + [128] * 5 + [256] * 2 + [32, 12288]
+    add(full, 70000, pool=65535, first=65535)
+    add(full, 65536, first=1)
+    add(full, 70000, first=1)
+    return out
+
+
 def runs(*pairs):
     return [(times, bytes(b)) for times, b in pairs if times > 0 and len(b) > 0]
 
@@ -86,6 +192,9 @@ def vectors():
         add((1, whole[:n]))
     add((1, whole + b"\0"))
     add((1, whole + b"\0\0\0"))
+    # the first place at which a byte can be left over
+    add((1, bytes(6)))
+    add((1, bytes(7)))
     # the numbers of 01's forms, as a pool, and every malformed form of each
     rest = bytes(5)
     for n in (0, 1, 127, 128, 129, 255, 256, 16383, 16384, 16385, 32767, 32768, 65534, 65535):
@@ -136,6 +245,18 @@ def vectors():
     whole_code = 65536 - 5916 * 9 - 8
     for code in (whole_code - 1, whole_code, whole_code + 1):
         add(*wide, (1, bytes(3) + form(code)), (code, b"\x9a"))
+    # the last places of 42 and 41
+    add(*wide, (1, bytes(3) + form(whole_code - 1)), (whole_code, b"\x9a"))
+    add(*wide, (1, bytes(3) + form(whole_code + 1)), (whole_code, b"\x9a"))
+    # behind every table full of numbers of three bytes the last places of 40 and 31
+    three = form(65535)
+    all_full = [(1, three + form(6144)), (6144, three * 3), (1, form(128)), (128, three * 5), (1, form(256)), (256, three * 2),
+                (1, form(32)), (32, three)]
+    for last in (bytes([128, 0]), bytes([129, 128, 0]), bytes([255, 255, 4]), bytes([255]), bytes([255, 255]), form(12289), form(65535)):
+        add(*all_full, (1, last))
+    for code in (0, 1, 65536 - 58858 - 2, 65536 - 58858 - 1):
+        add(*all_full, (1, form(code)), (code, b"\x88"))
+    add(*all_full, (1, form(12288)), (65536 - 58858 - 2, b"\x88"))
     add((65535, b"\x80"), (1, b"\x80"))
     add((65535, b"\x80"), (2, b"\x80"))
     add((65535, b"\0"), (4000, b"\0"))
@@ -152,6 +273,10 @@ def main():
             script += bytes([times % 256, times // 256, len(b)]) + b
         script += bytes(3)
         lines.append(line(b"".join(b * times for times, b in vector)))
+    for case in cases():
+        bytes_of_case = case.script()
+        script += bytes([0, 0, len(bytes_of_case)]) + bytes_of_case
+        lines.append(case.line())
     assert len(script) <= 65536, len(script)
     folder = os.path.join("crates", "file_vectors")
     with open(os.path.join(folder, "stdin"), "wb") as f:

@@ -1,12 +1,15 @@
 // Reads bench files from standard input, each written as runs of bytes (how often, low byte first, how many, and as many bytes; an empty
-// run ends a file), and prints for each what reading it finds and a sum over all cells of the columns afterwards.
+// run ends a file), and prints for each what reading it finds and a sum over all cells of the columns afterwards. A run that stands no
+// times is a case for the writer.
+mod written;
+
 ghost use mathlib.Core.Path.{_≡_};
 ghost use Prim.Native.Nat.{_+_, _<_, _≤_};
 ghost use lib.ListN.{length};
 use file::Outcome;
 use file::Sizes;
 
-fn wide8(x: u8) -> usize
+pub fn wide8(x: u8) -> usize
     ensures { λ r. ⌜ r < 256 ⌝ }
 {
     x as usize
@@ -36,7 +39,7 @@ fn sum_usize(sum: u64, column: &[usize]) -> u64 {
     h
 }
 
-fn sum_u8(sum: u64, column: &[u8]) -> u64 {
+pub fn sum_u8(sum: u64, column: &[u8]) -> u64 {
     let mut h = sum;
     let mut i = 0;
     while i < column.len() {
@@ -46,7 +49,7 @@ fn sum_u8(sum: u64, column: &[u8]) -> u64 {
     h
 }
 
-fn field(n: u64) {
+pub fn field(n: u64) {
     io::write_all(1, b" ");
     io::print_decimal(1, n);
 }
@@ -153,7 +156,7 @@ fn show_front(file: &[u8], size: usize) {
     }
 }
 
-// The size of the file after a run; an empty one shows it.
+// The size of the file after a run; an empty one shows it, and one that stands no times leaves it as it is.
 fn after_run(
     file: &mut [u8; 70000],
     size: usize,
@@ -168,6 +171,10 @@ fn after_run(
     if count == 0 {
         show_front(file, size);
         return 0;
+    }
+    if times == 0 {
+        written::show_case(script, from);
+        return size;
     }
     append_runs(file, size, script, from, count, times)
 }
