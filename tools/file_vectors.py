@@ -55,9 +55,13 @@ def read(file):
     return pool, columns
 
 
-def line(file):
+# With `short` the column of this number, from 1 on, is lent a cell short.
+def line(file, short=0):
     room = [limit for limit, width in LIMITS for _ in range(width)] + [12288]
     try:
+        if short:
+            room[short - 1] -= 1
+            raise Stop(30, 0)
         pool, columns = read(file)
         sizes = [len(columns[k]) for k in (0, 3, 8, 10, 11)]
         text = "READ " + " ".join(map(str, [pool] + sizes))
@@ -268,11 +272,19 @@ def vectors():
 
 def main():
     script, lines = bytearray(), []
-    for vector in vectors():
+
+    def put(vector, short):
         for times, b in vector:
-            script += bytes([times % 256, times // 256, len(b)]) + b
-        script += bytes(3)
-        lines.append(line(b"".join(b * times for times, b in vector)))
+            script.extend(bytes([times % 256, times // 256, len(b)]) + b)
+        script.extend([short, 0, 0])
+        lines.append(line(b"".join(b * times for times, b in vector), short))
+
+    for vector in vectors():
+        put(vector, 0)
+    # a short column comes before everything in the file
+    for short in range(1, 13):
+        for vector in (runs((1, bytes([0, 0, 1, 1, 0, 1, 0, 2, 0, 1, 1, 2, 5, 0x88]))), runs(), runs((65535, b"\0"), (2, b"\0"))):
+            put(vector, short)
     for case in cases():
         bytes_of_case = case.script()
         script += bytes([0, 0, len(bytes_of_case)]) + bytes_of_case

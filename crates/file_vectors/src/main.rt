@@ -1,6 +1,6 @@
-// Reads bench files from standard input, each written as runs of bytes (how often, low byte first, how many, and as many bytes; an empty
-// run ends a file), and prints for each what reading it finds and a sum over all cells of the columns afterwards. A run that stands no
-// times is a case for the writer.
+// Reads bench files from standard input, each written as runs of bytes (how often, low byte first, how many, and as many bytes), and prints
+// for each what reading it finds and a sum over all cells of the columns afterwards. An empty run ends a file; if it stands k times, the
+// k-th column is lent a cell short. A run that stands no times is a case for the writer.
 mod written;
 
 ghost use mathlib.Core.Path.{_≡_};
@@ -75,8 +75,89 @@ fn show_outcome(o: Outcome) {
     }
 }
 
-// Every column starts with sevens, so that a spare cell that changed shows in the sum.
-fn show(file: &[u8]) {
+fn show_sum(
+    ids: &[u16],
+    counts: &[u16],
+    flags: &[u16],
+    functions: &[u16],
+    parameters: &[u16],
+    maxima: &[u16],
+    offsets: &[usize],
+    lengths: &[usize],
+    types: &[u16],
+    targets: &[u16],
+    entries: &[u16],
+    code: &[u8],
+) {
+    let rows = sum_u16(sum_u16(sum_u16(0, ids), counts), flags);
+    let numbers = sum_u16(sum_u16(sum_u16(rows, functions), parameters), maxima);
+    let bodies = sum_usize(sum_usize(numbers, offsets), lengths);
+    let rest = sum_u16(sum_u16(sum_u16(bodies, types), targets), entries);
+    field(sum_u8(rest, code));
+    io::write_all(1, b"\n");
+}
+
+// Reads into the lent columns, and shows a sum over all of their cells.
+fn show_lent(
+    ids: &mut [u16],
+    counts: &mut [u16],
+    flags: &mut [u16],
+    functions: &mut [u16],
+    parameters: &mut [u16],
+    maxima: &mut [u16],
+    offsets: &mut [usize],
+    lengths: &mut [usize],
+    types: &mut [u16],
+    targets: &mut [u16],
+    entries: &mut [u16],
+    code: &mut [u8],
+    file: &[u8],
+) {
+    show_outcome(file::read_file(
+        ids,
+        counts,
+        flags,
+        functions,
+        parameters,
+        maxima,
+        offsets,
+        lengths,
+        types,
+        targets,
+        entries,
+        code,
+        file,
+    ));
+    show_sum(
+        ids,
+        counts,
+        flags,
+        functions,
+        parameters,
+        maxima,
+        offsets,
+        lengths,
+        types,
+        targets,
+        entries,
+        code,
+    );
+}
+
+// Of a column's cells all but one, where it is the short one.
+fn cells_of(limit: usize, column: usize, short: usize) -> usize
+    ensures { λ r. ⌜ r ≤ limit ⌝ }
+{
+    if column == short {
+        if 0 < limit {
+            return limit - 1;
+        }
+    }
+    limit
+}
+
+// Every column starts with sevens, so that a spare cell that changed shows in the sum. One column may be a cell short.
+fn show(file: &[u8], short: usize) {
     let mut ids = [7u16; 6144];
     let mut counts = [7u16; 6144];
     let mut flags = [7u16; 6144];
@@ -89,28 +170,33 @@ fn show(file: &[u8]) {
     let mut targets = [7u16; 256];
     let mut entries = [7u16; 32];
     let mut code = [7u8; 12288];
-    let o = file::read_file(
-        &mut ids,
-        &mut counts,
-        &mut flags,
-        &mut functions,
-        &mut parameters,
-        &mut maxima,
-        &mut offsets,
-        &mut lengths,
-        &mut types,
-        &mut targets,
-        &mut entries,
-        &mut code,
+    let n0 = cells_of(6144, 1, short);
+    let n1 = cells_of(6144, 2, short);
+    let n2 = cells_of(6144, 3, short);
+    let n3 = cells_of(128, 4, short);
+    let n4 = cells_of(128, 5, short);
+    let n5 = cells_of(128, 6, short);
+    let n6 = cells_of(128, 7, short);
+    let n7 = cells_of(128, 8, short);
+    let n8 = cells_of(256, 9, short);
+    let n9 = cells_of(256, 10, short);
+    let n10 = cells_of(32, 11, short);
+    let n11 = cells_of(12288, 12, short);
+    show_lent(
+        &mut ids[..n0],
+        &mut counts[..n1],
+        &mut flags[..n2],
+        &mut functions[..n3],
+        &mut parameters[..n4],
+        &mut maxima[..n5],
+        &mut offsets[..n6],
+        &mut lengths[..n7],
+        &mut types[..n8],
+        &mut targets[..n9],
+        &mut entries[..n10],
+        &mut code[..n11],
         file,
     );
-    show_outcome(o);
-    let rows = sum_u16(sum_u16(sum_u16(0, &ids), &counts), &flags);
-    let numbers = sum_u16(sum_u16(sum_u16(rows, &functions), &parameters), &maxima);
-    let bodies = sum_usize(sum_usize(numbers, &offsets), &lengths);
-    let rest = sum_u16(sum_u16(sum_u16(bodies, &types), &targets), &entries);
-    field(sum_u8(rest, &code));
-    io::write_all(1, b"\n");
 }
 
 // One run of bytes at the end of the file so far; what does not fit is left out.
@@ -150,9 +236,9 @@ fn append_runs(
     end
 }
 
-fn show_front(file: &[u8], size: usize) {
+fn show_front(file: &[u8], size: usize, short: usize) {
     if size <= file.len() {
-        show(&file[..size]);
+        show(&file[..size], short);
     }
 }
 
@@ -169,7 +255,7 @@ fn after_run(
     ensures { λ r. ⌜ r ≤ 70000 ⌝ }
 {
     if count == 0 {
-        show_front(file, size);
+        show_front(file, size, times);
         return 0;
     }
     if times == 0 {
