@@ -3,4 +3,3 @@ pub mod Threaded
 pub mod LaidLaws
 pub mod Picking
 pub mod ReadLaws
-pub mod WriteLaws

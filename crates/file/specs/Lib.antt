@@ -6,10 +6,3 @@ pub mod Examples
 pub mod TableLaws
 pub mod Written
 pub mod Transposed
-pub mod RoundTrip
-pub mod WritesBack
-pub mod ReadsBack
-pub mod Writing
-pub mod NumbersLaws
-pub mod WroteLaws
-pub mod Laws

@@ -2,7 +2,7 @@
 // afterwards; tests/driver/file_probe.h says what the numbers mean. Nothing here is part of the product.
 use file::Outcome;
 use file::Sizes;
-use file::Wrote;
+use file_writer::Wrote;
 
 // No count and no place is as high as 2 to the power of 30.
 fn narrow(n: usize) -> u32 {
@@ -92,7 +92,7 @@ pub extern "C" fn file_probe_write(
     entries: &[u16],
     code: &[u8],
 ) -> u32 {
-    let wrote = file::write_file(
+    let wrote = file_writer::write_file(
         out,
         pool,
         list_ids,

@@ -5,7 +5,7 @@ ghost use Prim.Native.Nat.{_<_};
 use crate::field;
 use crate::sum_u8;
 use crate::wide8;
-use file::Wrote;
+use file_writer::Wrote;
 
 // No script is as long as 2 to the power of 24.
 fn number(script: &[u8], from: usize, index: usize) -> usize
@@ -65,7 +65,7 @@ fn write(
     script: &[u8],
     from: usize,
 ) -> Wrote {
-    file::write_file(
+    file_writer::write_file(
         out,
         (number(script, from, 0) % 65536) as u16,
         front_u16(words, number(script, from, 3)),

@@ -1,0 +1,7 @@
+pub mod Writing
+pub mod NumbersLaws
+pub mod WroteLaws
+pub mod RoundTrip
+pub mod WritesBack
+pub mod ReadsBack
+pub mod Laws
