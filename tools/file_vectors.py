@@ -1,6 +1,6 @@
 #!/usr/bin/env python3
-# file_vectors.py: writes crates/file_vectors/stdin and stdout, from the repository's root. The expected lines come from a reader and a
-# writer written here from document 01 alone; they stand outside the proofs.
+# file_vectors.py: writes crates/file_vectors/stdin and stdout, from the repository's root. The expected lines come from a reader written
+# here from document 01 alone, and a writer with the refusals of `write_file`, of which 01 does not speak; both stand outside the proofs.
 import os
 
 from benchtext import form

@@ -1,4 +1,5 @@
-//! The bench file, read and written as 01 has it ("Bench file, program and C entry"), apart from the crates.
+//! The bench file, read as 01 has it ("Bench file, program and C entry") and written, apart from the crates. The writer's refusals are those of
+//! `write_file`: 01 does not speak of writing.
 
 /// The most rows of each table, and the most bytes of code.
 pub const ROWS: usize = 6_144;
