@@ -11,7 +11,7 @@ use lib.ListN.{length, getD}
 use Rattle.cells.specs.Zeros.{zeros, length-zeros, any-zero}
 use Rattle.tables.specs.Set.{sizeOf, moveOf}
 use Rattle.flow.specs.declared.starts.Decoded.{Decoded}
-use Rattle.flow.specs.Walk.{walkBy, endOf, markAll}
+use Rattle.flow.specs.Walk.{walkBy, endOf, markAll, marksOf}
 use Rattle.flow.specs.Next.{marks-fit}
 use Rattle.program.specs.declared.Input.{Input}
 use Rattle.program.specs.declared.Room.{Room}
@@ -27,7 +27,7 @@ use Rattle.rules.proofs.Exact.{exact}
 use Rattle.rules.proofs.Turns.{turns-suffice}
 use Rattle.effects.specs.Effects.{knownOf}
 use Rattle.stack.specs.declared.Verdict.{Verdict}
-use Rattle.stack.specs.Stack.{onDecoded, marksOf, bodyAnswer, onWalked, functionsFrom, functionsAnswer, onInput, stackAnswer}
+use Rattle.stack.specs.Stack.{onDecoded, bodyAnswer, onWalked, functionsFrom, functionsAnswer, onInput, stackAnswer}
 use Rattle.stack.specs.Exact.{Balanced, Sound}
 
 module _ (sizes : ℕ → ℕ) (known : Effects) (body : List ℕ) (maximum : ℕ) where

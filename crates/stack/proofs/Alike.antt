@@ -6,14 +6,14 @@ use mathlib.Core.List.{List}
 use native.Mathlib.Omega.{arith}
 use lib.ListN.{length, getD, take, drop, length-take, length-drop}
 use lib.Seq.{getD-take, getD-drop}
-use Rattle.flow.specs.Walk.{walkBy, endOf}
+use Rattle.flow.specs.Walk.{walkBy, endOf, marksOf}
 use Rattle.program.specs.Program.{Program, bodyOf, body-is}
 use Rattle.rules.specs.declared.Look.{Look}
 use Rattle.rules.specs.Look.{Effects, lookOf}
 use Rattle.rules.specs.Walk.{walkOf}
 use Rattle.rules.proofs.Cases.{look-alike}
 use Rattle.stack.specs.declared.Verdict.{Verdict}
-use Rattle.stack.specs.Stack.{onDecoded, marksOf, bodyAnswer, onWalked, functionsFrom, functionsAnswer}
+use Rattle.stack.specs.Stack.{onDecoded, bodyAnswer, onWalked, functionsFrom, functionsAnswer}
 
 -- the effects agree at the bytes of a body
 abbrev pub Agree : Effects → Effects → List ℕ → Type 0

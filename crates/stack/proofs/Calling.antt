@@ -7,7 +7,7 @@ use mathlib.Core.Path.{_≡_, refl, _∙_, ap, ap₂, sym}
 use mathlib.Core.Bool.{Bool, true, false, false≢true, true≢false}
 use mathlib.Core.List.{List}
 use lib.ListN.{length, getD}
-use Rattle.cells.specs.Zeros.{zeros, length-zeros, as-long}
+use Rattle.cells.specs.Zeros.{zeros, length-zeros, as-long, ZeroAfter}
 use Rattle.tables.specs.declared.Move.{Move}
 use Rattle.tables.specs.Set.{sizeOf, moveOf}
 use Rattle.tables.specs.Laws.{method-only}
@@ -16,8 +16,8 @@ use Rattle.tables.specs.Stored.{size-stored, move-stored, GoesOn, goes-on-store
 use Rattle.program.specs.declared.Input.{Input}
 use Rattle.program.specs.declared.Room.{Room}
 use Rattle.program.specs.Program.{Program, bodyOf}
-use Rattle.program.specs.Refusals.{stackInput}
-use Rattle.program.specs.Taken.{StackTaken, stack-taken}
+use Rattle.program.specs.Refusals.{stackInput, isTaken, roomOf}
+use Rattle.program.specs.Taken.{StackTaken, stack-taken, taken-is}
 use Rattle.rules.specs.declared.Violation.{Violation}
 use Rattle.rules.specs.declared.Walked.{Walked}
 use Rattle.rules.specs.Look.{Effects}
@@ -26,7 +26,7 @@ use Rattle.effects.specs.Laws.{known-is}
 use Rattle.stack.specs.declared.Verdict.{Verdict}
 use Rattle.stack.proofs.Alike.{body-byte, answer-alike}
 use Rattle.stack.specs.Columns.{Cleared, Roomy}
-use Rattle.stack.specs.Stack.{isTaken, onInput, roomOf, onWalked, functionsFrom, functionsAnswer, stackAnswer, scratchAfter, ZeroAfter, bodyAnswer}
+use Rattle.stack.specs.Stack.{onInput, onWalked, functionsFrom, functionsAnswer, stackAnswer, scratchAfter, bodyAnswer}
 
 sizes-are : (sizes : List ℕ) → sizes ≡ sizeTable → sizeIn sizes ≡ sizeOf
 sizes-are sizes e = ap sizeIn e ∙ (λ i op. size-stored op i)
@@ -70,18 +70,9 @@ not-taken (Input.IdRepeated k) rest e = refl
 not-taken (Input.BodyOutside k) rest e = refl
 not-taken Input.PoolTooLarge rest e = refl
 
-is-taken : (input : Input) → isTaken input ≡ true → input ≡ Input.Taken
-is-taken Input.Taken e = refl
-is-taken Input.TooMany e = absurd (false≢true e)
-is-taken Input.ScratchShort e = absurd (false≢true e)
-is-taken (Input.ListFault k) e = absurd (false≢true e)
-is-taken (Input.IdRepeated k) e = absurd (false≢true e)
-is-taken (Input.BodyOutside k) e = absurd (false≢true e)
-is-taken Input.PoolTooLarge e = absurd (false≢true e)
-
 module _ (p : Program) (room : Room) (input : Input) (is : input ≡ stackInput p room) where
   pub call-taken : isTaken input ≡ true → StackTaken p room
-  call-taken e = stack-taken p room (sym is ∙ is-taken input e)
+  call-taken e = stack-taken p room (sym is ∙ taken-is input e)
 
   pub call-refused : isTaken input ≡ false → Verdict.Refused input ≡ stackAnswer p room
   unfolding stackAnswer
@@ -89,7 +80,7 @@ module _ (p : Program) (room : Room) (input : Input) (is : input ≡ stackInput 
 
   pub call-answers : isTaken input ≡ true → (v : Verdict) → v ≡ functionsAnswer sizeOf (knownOf moveOf p) p → v ≡ stackAnswer p room
   unfolding stackAnswer
-  call-answers e v a = a ∙ ap (λ (i : Input). onInput i (functionsAnswer sizeOf (knownOf moveOf p) p)) (sym (is-taken input e) ∙ is)
+  call-answers e v a = a ∙ ap (λ (i : Input). onInput i (functionsAnswer sizeOf (knownOf moveOf p) p)) (sym (taken-is input e) ∙ is)
 
 -- the bodies' answer is no refusal
 abbrev Judged : Verdict → Type 0

@@ -8,7 +8,7 @@ use mathlib.Core.List.{List}
 use lib.ListN.{length, getD, set, take, drop, length-take, length-drop}
 use Rattle.cells.specs.Zeros.{zeros, zeros-are, length-zeros, any-zero}
 use Rattle.flow.specs.declared.starts.Decoded.{Decoded}
-use Rattle.flow.specs.Walk.{walkBy, endOf, markAll}
+use Rattle.flow.specs.Walk.{walkBy, endOf, markAll, marksOf}
 use Rattle.flow.specs.Next.{marks-fit}
 use Rattle.rules.specs.declared.Violation.{Violation}
 use Rattle.rules.specs.declared.Walked.{Walked}
@@ -18,7 +18,7 @@ use Rattle.rules.proofs.Counting.{begun-is}
 use Rattle.program.specs.Program.{Program, bodyOf, body-is}
 use Rattle.stack.specs.declared.Verdict.{Verdict}
 use Rattle.stack.specs.Columns.{Fitting, Cleared, Roomy}
-use Rattle.stack.specs.Stack.{onDecoded, marksOf, bodyAnswer, onWalked, functionsFrom, functionsAnswer}
+use Rattle.stack.specs.Stack.{onDecoded, bodyAnswer, onWalked, functionsFrom, functionsAnswer}
 
 module _ (sizes : ℕ → ℕ) (known : Effects) (body : List ℕ) (maximum : ℕ) where
   pub body-stops : (d : Decoded) → d ≡ endOf (walkBy sizes body 0) → onDecoded d (walkOf (lookOf known (marksOf sizes body) body maximum) (length body + 1)) ≡ bodyAnswer sizes known body maximum

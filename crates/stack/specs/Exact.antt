@@ -7,7 +7,7 @@ use mathlib.Core.List.{List}
 use lib.ListN.{length, getD}
 use Rattle.tables.specs.Set.{sizeOf, moveOf}
 use Rattle.flow.specs.declared.starts.Decoded.{Decoded}
-use Rattle.flow.specs.Walk.{walkBy, endOf}
+use Rattle.flow.specs.Walk.{walkBy, endOf, marksOf}
 use Rattle.program.specs.declared.Input.{Input}
 use Rattle.program.specs.declared.Room.{Room}
 use Rattle.program.specs.Program.{Program, bodyOf}
@@ -15,7 +15,6 @@ use Rattle.program.specs.Refusals.{stackInput}
 use Rattle.rules.specs.Look.{Effects, lookOf}
 use Rattle.rules.specs.Assigned.{Satisfies}
 use Rattle.effects.specs.Effects.{knownOf}
-use Rattle.stack.specs.Stack.{marksOf}
 
 -- a body under rules that give each instruction's effect
 pub record Balanced (sizes : ℕ → ℕ) (known : Effects) (body : List ℕ) (maximum : ℕ) : Type 0 where

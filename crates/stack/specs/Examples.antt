@@ -7,18 +7,18 @@ use lib.ListN.{length, replicate}
 use Rattle.cells.specs.Zeros.{zeros}
 use Rattle.tables.specs.Set.{sizeOf, moveOf, instructionSet}
 use Rattle.flow.specs.Decode.{stepBy, operandsAt, wordAt, flowOf, moved, targetOf}
-use Rattle.flow.specs.Walk.{walkBy}
+use Rattle.flow.specs.Walk.{walkBy, marksOf}
 use Rattle.codes.specs.First.{firstOf}
 use Rattle.codes.specs.Rows.{faulty, rowsOf}
 use Rattle.codes.specs.Lookup.{placeOf, entryOf}
 use Rattle.program.specs.Program.{Program, programOf, functionsOf, listOf, bodyOf}
-use Rattle.program.specs.Refusals.{tableRefused, tooMany, scratchShort, repeats, repeatedOf, outside, outsideOf, directoryOf, contentsOf, inputOf, stackInput}
+use Rattle.program.specs.Refusals.{tableRefused, tooMany, scratchShort, repeats, repeatedOf, outside, outsideOf, directoryOf, contentsOf, inputOf, stackInput, roomOf}
 use Rattle.rules.specs.Look.{flowing, moving, acting, lookOf}
 use Rattle.rules.specs.Walk.{put, follow, walkFrom, begun, walkOf}
 use Rattle.effects.specs.Effects.{knownOf}
 use Rattle.answers.specs.declared.Fields.{Fields}
 use Rattle.answers.specs.Fields.{fieldsBy, violationFields, refusalFields}
-use Rattle.stack.specs.Stack.{marksOf, bodyAnswer, functionsAnswer, roomOf, stackAnswer, fieldsOf}
+use Rattle.stack.specs.Stack.{bodyAnswer, functionsAnswer, stackAnswer, fieldsOf}
 
 -- a body, the declared maximum, and the answer's six fields
 pub record Example : Type 0 where

@@ -1,14 +1,12 @@
 -- The stack check: functions in directory order, the whole body decoded first, then the walk; the first violation ends the call.
 -- Assumes nothing.
 use Prim.Native.Nat.{ℕ, zero, suc, _+_}
-use mathlib.Core.Path.{_≡_}
-use mathlib.Core.Bool.{Bool, true, false}
 use mathlib.Core.List.{List}
 use lib.ListN.{length, getD}
 use Rattle.cells.specs.Zeros.{zeros}
 use Rattle.tables.specs.Set.{sizeOf, moveOf}
 use Rattle.flow.specs.declared.starts.Decoded.{Decoded}
-use Rattle.flow.specs.Walk.{walkBy, endOf, markAll}
+use Rattle.flow.specs.Walk.{walkBy, endOf, marksOf}
 use Rattle.program.specs.declared.Input.{Input}
 use Rattle.program.specs.declared.Room.{Room}
 use Rattle.program.specs.Program.{Program, bodyOf}
@@ -27,10 +25,6 @@ abbrev pub onDecoded : Decoded → Walked → Walked
 onDecoded Decoded.Whole walked = walked
 onDecoded (Decoded.Unknown offset byte) walked = Walked.Violated (Violation.UnknownOpcode offset byte)
 onDecoded (Decoded.Truncated offset opcode) walked = Walked.Violated (Violation.TruncatedInstruction offset opcode)
-
--- a body's start marks: an instruction's size at its first byte
-unfoldable pub marksOf : (ℕ → ℕ) → List ℕ → List ℕ
-marksOf sizes body = markAll (walkBy sizes body 0) (zeros (length body))
 
 -- then a first-in first-out queue from offset 0 at depth 0
 unfoldable pub bodyAnswer : (ℕ → ℕ) → Effects → List ℕ → ℕ → Walked
@@ -60,19 +54,6 @@ onInput (Input.IdRepeated k) rest = Verdict.Refused (Input.IdRepeated k)
 onInput (Input.BodyOutside k) rest = Verdict.Refused (Input.BodyOutside k)
 onInput Input.PoolTooLarge rest = Verdict.Refused Input.PoolTooLarge
 
-abbrev pub isTaken : Input → Bool
-isTaken Input.Taken = true
-isTaken Input.TooMany = false
-isTaken Input.ScratchShort = false
-isTaken (Input.ListFault k) = false
-isTaken (Input.IdRepeated k) = false
-isTaken (Input.BodyOutside k) = false
-isTaken Input.PoolTooLarge = false
-
--- the lent scratch: start marks, depths and two queue columns
-abbrev pub roomOf : ℕ → ℕ → ℕ → ℕ → Room
-roomOf m d q e = record { marks = m; depths = d; queue = q; «queue_depths» = e }
-
 -- the call's answer
 unfoldable pub stackAnswer : Program → Room → Verdict
 stackAnswer p room = onInput (stackInput p room) (functionsAnswer sizeOf (knownOf moveOf p) p)
@@ -82,9 +63,6 @@ unfoldable pub scratchAfter : Verdict → List ℕ → List ℕ
 scratchAfter (Verdict.Refused input) column = column
 scratchAfter Verdict.Accepted column = zeros (length column)
 scratchAfter (Verdict.Violated function v) column = zeros (length column)
-
-abbrev pub ZeroAfter : List ℕ → List ℕ → Type 0
-ZeroAfter first last = last ≡ zeros (length first)
 
 -- the number and the values of an answer
 unfoldable pub fieldsOf : Verdict → Fields

@@ -10,31 +10,19 @@ use program::Room;
 use rules::Violation;
 ghost use mathlib.Core.Path.{_≡_};
 ghost use lib.ListN.{length};
+ghost use Rattle.cells.specs.Zeros.{ZeroAfter};
 ghost use Rattle.tables.specs.Set.{sizeOf, moveOf};
 ghost use Rattle.program.specs.Program.{listOf, functionsOf, programOf};
+ghost use Rattle.program.specs.Refusals.{roomOf};
 ghost use Rattle.program.specs.Taken.{StackTaken};
 ghost use Rattle.effects.specs.Effects.{knownOf};
-ghost use Rattle.stack.specs.Stack.{isTaken, roomOf, functionsAnswer, stackAnswer, scratchAfter, ZeroAfter, fieldsOf};
+ghost use Rattle.stack.specs.Stack.{functionsAnswer, stackAnswer, scratchAfter, fieldsOf};
 
 // The call's answer: the input refused, accepted, or the first violation with the function that it stands in.
 pub enum Verdict {
     Refused(Input),
     Accepted,
     Violated { function: u16, violation: Violation },
-}
-
-fn is_taken(input: Input) -> bool
-    ensures { λ r. ⌜ r ≡ isTaken input ⌝ }
-{
-    match input {
-        Input::Taken => true,
-        Input::TooMany => false,
-        Input::ScratchShort => false,
-        Input::ListFault(_) => false,
-        Input::IdRepeated(_) => false,
-        Input::BodyOutside(_) => false,
-        Input::PoolTooLarge => false,
-    }
 }
 
 // Hints for the code list, where the code is long enough to hold lookups that they pay for: every row is noted, be its id asked for or not, and
@@ -134,7 +122,7 @@ pub fn stack_check(
         code,
         room,
     );
-    if is_taken(input) {
+    if program::is_taken(input) {
         return checked(
             marks,
             depths,
