@@ -45,23 +45,28 @@ cell-le : (p : Place) → cellAt p ≤ 128
 cell-le (Row k) = cell-by k (ltb k 128) refl
 cell-le Nowhere = omega arith
 
-block-le : (row : ℕ → Place) (callees : List ℕ) (p : Place) → blockBy row callees p ≤ 128
-block-le row callees (Row k) = cell-le (row (getD callees k 0))
-block-le row callees Nowhere = omega arith
+-- a cell that is opened is some function's: what bounds those bounds it
+module _ (x : ℕ) (row : ℕ → Place) (cells : (id : ℕ) → cellAt (row id) ≤ x) (types callees : List ℕ) where
+  block-within : (p : Place) → blockBy row callees p ≤ x
+  block-within (Row k) = cells (getD callees k 0)
+  block-within Nowhere = omega arith
 
-block-by : (row : ℕ → Place) (callees : List ℕ) (p : Place) (b : Bool) → cond b (blockBy row callees p) 0 ≤ 128
-block-by row callees p true = block-le row callees p
-block-by row callees p false = omega arith
+  block-by : (p : Place) (b : Bool) → cond b (blockBy row callees p) 0 ≤ x
+  block-by p true = block-within p
+  block-by p false = omega arith
 
-open-le : (row : ℕ → Place) (types callees : List ℕ) (op : ℕ) (operands : List ℕ) (m : Move) → openBy row types callees op operands m ≤ 128
-open-le row types callees op operands (Fixed e) = block-by row callees (placeOf types (wordAt operands 0)) (eqb op 0xA4)
-open-le row types callees op operands Builtin = omega arith
-open-le row types callees op operands Call = cell-le (row (wordAt operands 0))
-open-le row types callees op operands Method = cell-le (row (wordAt operands 0))
+  open-within : (op : ℕ) (operands : List ℕ) (m : Move) → openBy row types callees op operands m ≤ x
+  open-within op operands (Fixed e) = block-by (placeOf types (wordAt operands 0)) (eqb op 0xA4)
+  open-within op operands Builtin = omega arith
+  open-within op operands Call = cells (wordAt operands 0)
+  open-within op operands Method = cells (wordAt operands 0)
+
+  pub opens-within : (moves : ℕ → Move) (op : ℕ) (operands : List ℕ) → opensBy moves row types callees op operands ≤ x
+  unfolding opensBy
+  opens-within moves op operands = open-within op operands (moves op)
 
 pub opens-le : (moves : ℕ → Move) (row : ℕ → Place) (types callees : List ℕ) (op : ℕ) (operands : List ℕ) → opensBy moves row types callees op operands ≤ 128
-unfolding opensBy
-opens-le moves row types callees op operands = open-le row types callees op operands (moves op)
+opens-le moves row types callees op operands = opens-within 128 row (λ id. cell-le (row id)) types callees moves op operands
 
 module _ (p : Program) (room : Room) (t : StackTaken p room) where
   pub temps-are : (hints : List ℕ) (moves : ℕ → Move) (temps : ℕ → TempEffect) → tempsBy moves temps (hintedOf hints (p .list .ids)) (p .list .flags) ≡ tempsBy moves temps (placeOf (p .list .ids)) (p .list .flags)

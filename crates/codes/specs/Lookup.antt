@@ -57,6 +57,10 @@ noteDown ids (suc row) hints = noteDown ids row (set hints (getD ids row 0 % 819
 unfoldable pub noted : List ℕ → List ℕ → List ℕ
 noted ids hints = noteDown ids (length ids) hints
 
+-- noted where so many bytes of code may ask for a quarter of the rows
+unfoldable pub notedFor : ℕ → List ℕ → List ℕ → List ℕ
+notedFor bytes ids hints = cond (leb (length ids / 4 + 256) bytes) (noted ids hints) hints
+
 abbrev pub orElse : Place → Place → Place
 orElse (Row k) other = Row k
 orElse Nowhere other = other

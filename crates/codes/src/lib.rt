@@ -4,7 +4,7 @@ ghost use mathlib.Core.Bool.{cond};
 ghost use lib.Dec.{leb};
 ghost use Prim.Native.Nat.{_+_, _<_, _%_};
 ghost use Rattle.codes.specs.Rows.{rowsOf};
-ghost use Rattle.codes.specs.Lookup.{halvedOf, lookedUp, entryAt, noted, hintedOf, hintedUp};
+ghost use Rattle.codes.specs.Lookup.{halvedOf, lookedUp, entryAt, noted, notedFor, hintedOf, hintedUp};
 
 // Whether the rows are in order; else the first faulty one.
 pub enum Order {
@@ -116,6 +116,16 @@ pub fn note_rows(hints: &mut [u16], ids: &[u16])
     while 0 < row {
         row -= 1;
         cells::put_u16(hints, hint_cell(ids[row]), hint_of(row));
+    }
+}
+
+// Hints where the code has bytes enough to hold lookups that they pay for: every row is noted, be its id asked for or not, and short programs
+// were slower with hints.
+pub fn note_for(hints: &mut [u16], ids: &[u16], bytes: usize)
+    ensures { λ r. ⌜ now (hints .exit) ≡ notedFor bytes (now (ids .entry)) (now (hints .entry)) ⌝ }
+{
+    if ids.len() / 4 + 256 <= bytes {
+        note_rows(hints, ids);
     }
 }
 

@@ -22,7 +22,8 @@ use Rattle.flow.specs.declared.Spot.the-variants.{At, Before}
 use Rattle.flow.specs.declared.Target.{Target}
 use Rattle.flow.specs.declared.Target.the-variants.{Legal, Illegal}
 use Rattle.flow.specs.Decode.{stepBy, flowOf, targetOf}
-use Rattle.flow.specs.Walk.{Walk, stops, instr, onStep, walkIn, walkBy, endOf, markAll, isStart}
+use Rattle.cells.specs.Zeros.{zeros, length-zeros, any-zero}
+use Rattle.flow.specs.Walk.{Walk, stops, instr, onStep, walkIn, walkBy, endOf, markAll, marksOf, isStart}
 use Rattle.flow.specs.Laws.{Stands, stands, end-only}
 use Rattle.flow.specs.Starts.{split, join, true-not-false, marked, Begins, begins}
 
@@ -143,3 +144,13 @@ fit-by sizes body at z false e w h = omega arith
 pub marks-fit : (sizes : ℕ → ℕ) (body blank : List ℕ) → length body ≤ length blank → ((t : ℕ) → getD blank t 0 ≡ 0) → (at : ℕ) → at < length body → at + getD (markAll (walkBy sizes body 0) blank) at 0 ≤ length body
 marks-fit sizes body blank room clear at h =
     rw (marked sizes body 0 at blank (omega arith)) (fit-by sizes body at (getD blank at 0) (isStart (walkBy sizes body 0) at) refl (clear at) h)
+
+-- a body's marks are laid over zeros
+pub marks-are : (sizes : ℕ → ℕ) (body : List ℕ) → marksOf sizes body ≡ markAll (walkBy sizes body 0) (zeros (length body))
+unfolding marksOf
+marks-are sizes body = refl
+
+pub body-fits : (sizes : ℕ → ℕ) (body : List ℕ) (at : ℕ) → at < length body → at + getD (marksOf sizes body) at 0 ≤ length body
+body-fits sizes body at h =
+    let l = length-zeros (zeros (length body)) (length body) refl in
+    rw (marks-are sizes body) (marks-fit sizes body (zeros (length body)) (omega arith) (any-zero (zeros (length body)) (length body) refl) at h)

@@ -7,22 +7,14 @@ use mathlib.Core.Path.{_≡_, refl, ap, _∙_}
 use mathlib.Core.Logic.{_⊎_, inl, inr}
 use mathlib.Core.List.{List}
 use lib.ListN.{length, getD}
-use Rattle.cells.specs.Zeros.{zeros, length-zeros, any-zero}
 use Rattle.flow.specs.declared.starts.Decoded.{Decoded}
 use Rattle.flow.specs.Walk.{walkBy, endOf, marksOf}
-use Rattle.flow.specs.Next as next
+use Rattle.flow.specs.Next.{body-fits}
 use Rattle.buffers.specs.declared.Used.{Used}
 use Rattle.buffers.specs.Tread.{Temps, Opens, treadOf}
 use Rattle.buffers.specs.Walk.{Usage, Walked, undecodable, crowded, unfinished, walked, walkOf, usedOf}
 use Rattle.buffers.proofs.Theorems.{turns-suffice}
 use Rattle.pool.specs.Pool.{onDecoded, bodyWalk}
-
--- the marks of a body fit it
-pub marks-fit : (sizes : ℕ → ℕ) (body : List ℕ) (offset : ℕ) → offset < length body → offset + getD (marksOf sizes body) offset 0 ≤ length body
-unfolding marksOf
-marks-fit sizes body offset h =
-    let l = length-zeros (zeros (length body)) (length body) refl in
-    next.marks-fit sizes body (zeros (length body)) (omega arith) (any-zero (zeros (length body)) (length body) refl) offset h
 
 -- decoding, then the walk
 decoded-walked : (d : Decoded) (w : Walked) (numbers : List ℕ) (u : Usage) → onDecoded d w ≡ walked numbers u → (d ≡ Decoded.Whole) × (w ≡ walked numbers u)
@@ -71,7 +63,7 @@ module _ (sizes : ℕ → ℕ) (temps : Temps) (opens : Opens) (pool : ℕ) (bod
   pub body-finished : bodyWalk sizes temps opens pool body ≡ unfinished → ⊥
   unfolding bodyWalk
   body-finished e =
-      turns-suffice temps opens (marksOf sizes body) body pool (2 * length body + 2) (marks-fit sizes body) (decoded-unfinished (endOf (walkBy sizes body 0)) alone e)
+      turns-suffice temps opens (marksOf sizes body) body pool (2 * length body + 2) (body-fits sizes body) (decoded-unfinished (endOf (walkBy sizes body 0)) alone e)
 
 -- what a walk answers, back to its outcome
 pub used-walked : (w : Walked) (weight peak : ℕ) → usedOf w ≡ Used.Uses weight peak → (numbers : List ℕ) × (u : Usage) × (w ≡ walked numbers u)

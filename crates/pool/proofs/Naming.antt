@@ -14,6 +14,7 @@ use mathlib.Core.List.{List}
 use lib.ListN.{length, getD}
 use Rattle.tables.specs.Set.{sizeOf}
 use Rattle.flow.specs.Walk.{marksOf}
+use Rattle.flow.specs.Next.{body-fits}
 use Rattle.codes.specs.LookupLaws.{place-row, place-in, place-has}
 use Rattle.program.specs.declared.Input.{Input}
 use Rattle.program.specs.declared.Room.{Room}
@@ -29,7 +30,7 @@ use Rattle.visit.specs.Theorems as visiting
 use Rattle.pool.specs.declared.Verdict.{Verdict}
 use Rattle.pool.specs.Pool.{peakOf, onVisited, entriesOf, walkAt, poolAnswer}
 use Rattle.pool.specs.Accepts.{functionCount, Named, callGraph, Overruns, Recurs, FirstRow, Strays, Undecodable, Crowds}
-use Rattle.pool.proofs.Ending.{marks-fit, body-undecodable, body-crowded, crowded-body}
+use Rattle.pool.proofs.Ending.{body-undecodable, body-crowded, crowded-body}
 use Rattle.pool.proofs.Accepting.{pool-below, among-entered, visited, Answers, visits, strays, crowds, answers, first-answer}
 use Rattle.pool.proofs.Opening.{reached-inside}
 
@@ -41,13 +42,13 @@ module _ (q : PoolProgram) where
   row-strays row e =
       let body = bodyOf (q .program) row in
       ⊎-elim (λ n. inl n)
-      (λ d. inr (undecodable-strays (tempsOf q) (opensOf q) (marksOf sizeOf body) body (q .pool) (2 * length body + 2) (marks-fit sizeOf body) (d .1)))
+      (λ d. inr (undecodable-strays (tempsOf q) (opensOf q) (marksOf sizeOf body) body (q .pool) (2 * length body + 2) (body-fits sizeOf body) (d .1)))
       (body-undecodable sizeOf (tempsOf q) (opensOf q) (q .pool) body e)
 
   row-crowds : (row : ℕ) → (walkAt q row ≡ crowded) ↔ Crowds q row
   row-crowds row =
       let body = bodyOf (q .program) row in
-      let x = crowded-exact (tempsOf q) (opensOf q) (marksOf sizeOf body) body (q .pool) (2 * length body + 2) (marks-fit sizeOf body) (omega arith) in (
+      let x = crowded-exact (tempsOf q) (opensOf q) (marksOf sizeOf body) body (q .pool) (2 * length body + 2) (body-fits sizeOf body) (omega arith) in (
         λ e. let d = body-crowded sizeOf (tempsOf q) (opensOf q) (q .pool) body e in (d .0, x .0 (d .1)),
         λ c. crowded-body sizeOf (tempsOf q) (opensOf q) (q .pool) body (c .0) (x .1 (c .1)),
       )

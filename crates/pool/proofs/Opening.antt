@@ -14,6 +14,7 @@ use Rattle.tables.specs.declared.Move.{Move}
 use Rattle.tables.specs.Set.{sizeOf, moveOf}
 use Rattle.flow.specs.Decode.{wordAt}
 use Rattle.flow.specs.Walk.{marksOf}
+use Rattle.flow.specs.Next.{body-fits}
 use Rattle.codes.specs.declared.Place.{Place}
 use Rattle.codes.specs.Lookup.{placeOf}
 use Rattle.codes.specs.LookupLaws.{place-in}
@@ -22,11 +23,12 @@ use Rattle.buffers.specs.Walk.{Walked, undecodable, crowded, unfinished, walked
 use Rattle.buffers.specs.Meaning as meaning
 use Rattle.buffers.proofs.Cases.{tread-opens}
 use Rattle.buffers.proofs.Theorems.{callees-met}
-use Rattle.callees.specs.Callees.{cellAt, blockBy, openBy, opensBy, tempsOf, opensOf}
+use Rattle.callees.specs.Callees.{cellAt, tempsOf, opensOf}
+use Rattle.callees.specs.Laws.{opens-within}
 use Rattle.visit.specs.Graph.{Among, Calls, Reaches, same, more}
 use Rattle.pool.specs.Pool.{rowsIn, walkAt}
 use Rattle.pool.specs.Accepts.{functionCount, callGraph, Reached}
-use Rattle.pool.proofs.Ending.{marks-fit, body-walked}
+use Rattle.pool.proofs.Ending.{body-walked}
 
 -- ---- cells
 -- a cell is 0, or the row of the id and 1
@@ -52,23 +54,9 @@ cell-inside : (ids : List ℕ) (id : ℕ) → cellAt (placeOf ids id) ≤ length
 cell-inside ids id = ⊎-elim (λ z. omega (arith, z)) (λ r. omega (arith, r .1, r .3)) (cell-is ids id)
 
 -- ---- what an instruction opens
-block-inside : (ids callees : List ℕ) (p : Place) → blockBy (placeOf ids) callees p ≤ length ids
-block-inside ids callees (Place.Row k) = cell-inside ids (getD callees k 0)
-block-inside ids callees Place.Nowhere = omega arith
-
-block-by : (ids callees : List ℕ) (p : Place) (b : Bool) → cond b (blockBy (placeOf ids) callees p) 0 ≤ length ids
-block-by ids callees p true = block-inside ids callees p
-block-by ids callees p false = omega arith
-
-open-inside : (ids types callees : List ℕ) (op : ℕ) (operands : List ℕ) (m : Move) → openBy (placeOf ids) types callees op operands m ≤ length ids
-open-inside ids types callees op operands (Move.Fixed e) = block-by ids callees (placeOf types (wordAt operands 0)) (eqb op 0xA4)
-open-inside ids types callees op operands Move.Builtin = omega arith
-open-inside ids types callees op operands Move.Call = cell-inside ids (wordAt operands 0)
-open-inside ids types callees op operands Move.Method = cell-inside ids (wordAt operands 0)
-
 pub opens-inside : (q : PoolProgram) (op : ℕ) (operands : List ℕ) → opensOf q op operands ≤ functionCount q
-unfolding opensBy
-opens-inside q op operands = open-inside (q .program .functions .ids) (q .descriptors .types) (q .descriptors .callees) op operands (moveOf op)
+opens-inside q op operands =
+    opens-within (functionCount q) (placeOf (q .program .functions .ids)) (cell-inside (q .program .functions .ids)) (q .descriptors .types) (q .descriptors .callees) moveOf op operands
 
 -- ---- cells as rows
 pub cell-row : (cells : List ℕ) (row : ℕ) → meaning.Among (suc row) cells → Among row (rowsIn cells)
@@ -89,7 +77,7 @@ module _ (q : PoolProgram) where
       let body = bodyOf (q .program) row in
       let marks = marksOf sizeOf body in
       let d = body-walked sizeOf (tempsOf q) (opensOf q) (q .pool) body numbers u e in
-      let o = callees-met (tempsOf q) (opensOf q) marks body (q .pool) (2 * length body + 2) (marks-fit sizeOf body) numbers u (d .1) .exactly cell .0 i in (
+      let o = callees-met (tempsOf q) (opensOf q) marks body (q .pool) (2 * length body + 2) (body-fits sizeOf body) numbers u (d .1) .exactly cell .0 i in (
         o .0,
         omega (
           arith,

@@ -8,7 +8,7 @@ use lib.ListN.{length, getD, set, take, drop, length-take, length-drop}
 use Rattle.cells.specs.Zeros.{zeros, zeros-are, length-zeros, any-zero}
 use Rattle.flow.specs.declared.starts.Decoded.{Decoded}
 use Rattle.flow.specs.Walk.{walkBy, endOf, markAll, marksOf}
-use Rattle.flow.specs.Next.{marks-fit}
+use Rattle.flow.specs.Next.{marks-fit, marks-are, body-fits}
 use Rattle.buffers.specs.declared.Used.{Used}
 use Rattle.buffers.specs.Tread.{Temps, Opens, treadOf}
 use Rattle.buffers.specs.Walk.{Walked, undecodable, crowded, unfinished, walked, begun, walkOf, usedOf, calleesOf}
@@ -31,9 +31,8 @@ module _ (sizes : ℕ → ℕ) (temps : Temps) (opens : Opens) (pool : ℕ) (bod
 
   pub body-walks : (marks first row : List ℕ) (r : Used) → marks ≡ markAll (walkBy sizes body 0) first → first ≡ zeros (length body) → Decoded.Whole ≡ endOf (walkBy sizes body 0)
       → Walks r row (walks marks) → Walks r row (bodyWalk sizes temps opens pool body)
-  unfolding marksOf
   body-walks marks first row r m z e w =
-      let s : walks marks ≡ bodyWalk sizes temps opens pool body = ap walks (m ∙ ap (markAll (walkBy sizes body 0)) z) ∙ stops Decoded.Whole e in
+      let s : walks marks ≡ bodyWalk sizes temps opens pool body = ap walks (m ∙ ap (markAll (walkBy sizes body 0)) z ∙ sym (marks-are sizes body)) ∙ stops Decoded.Whole e in
       rw (← s) w
 
 pub marks-fitting : (sizes : ℕ → ℕ) (body marks first : List ℕ) → marks ≡ markAll (walkBy sizes body 0) first → first ≡ zeros (length body) → Fitting marks body
@@ -62,9 +61,9 @@ module _ (sizes : ℕ → ℕ) (temps : Temps) (opens : Opens) (pool : ℕ) (bod
   small-by marks fits w e (Decoded.Truncated o b) weight peak h = absurd (let z : _≡_ {A = ℕ} 0 1 = cc in omega arith)
 
   pub body-small : (weight peak : ℕ) → Used.Uses weight peak ≡ usedOf (bodyWalk sizes temps opens pool body) → weight ≤ pool + 1
-  unfolding bodyWalk marksOf
+  unfolding bodyWalk
   body-small weight peak h =
-      small-by (marksOf sizes body) (marks-fitting sizes body (marksOf sizes body) (zeros (length body)) refl refl) (walks sizes temps opens pool body (marksOf sizes body)) refl (endOf (walkBy sizes body 0)) weight peak h
+      small-by (marksOf sizes body) (body-fits sizes body) (walks sizes temps opens pool body (marksOf sizes body)) refl (endOf (walkBy sizes body 0)) weight peak h
 
 -- the weight that a body was laid with
 pub lays-small : (sizes : ℕ → ℕ) (temps : Temps) (opens : Opens) (pool : ℕ) (body : List ℕ) (r : Used) (at : ℕ) (first last : List ℕ) (weight peak : ℕ) → Lays r at first last (bodyWalk sizes temps opens pool body) → r ≡ Used.Uses weight peak → weight ≤ pool + 1

@@ -15,6 +15,7 @@ use lib.ListN.{length}
 use borrow.Author.Tests.{lt-ltb}
 use Rattle.tables.specs.Set.{sizeOf}
 use Rattle.flow.specs.Walk.{marksOf}
+use Rattle.flow.specs.Next.{body-fits}
 use Rattle.program.specs.declared.Room.{Room}
 use Rattle.program.specs.Program.{PoolProgram, bodyOf}
 use Rattle.program.specs.Taken.{pool-taken}
@@ -26,7 +27,7 @@ use Rattle.visit.specs.Graph.{Among, Calls, Tame}
 use Rattle.visit.specs.Laws.{reaches-on, tame-self, tame-reached}
 use Rattle.pool.specs.Pool.{weightOf, peakOf, rowsIn, walkAt}
 use Rattle.pool.specs.Accepts.{functionCount, WalkEnds, callGraph, Finds, Reached, PoolSound, Sheet, Paths}
-use Rattle.pool.proofs.Ending.{marks-fit, body-walked}
+use Rattle.pool.proofs.Ending.{body-walked}
 use Rattle.pool.proofs.Opening.{cell-row, row-of-cell, callee-inside, reached-inside}
 
 module _ (q : PoolProgram) where
@@ -67,10 +68,10 @@ module _ (q : PoolProgram) where
         weighs = weight-is row inside (w .numbers) (w .found) (w .ends);
         peaks = ap peakOf (w .ends);
         calls = calls-are row inside (w .numbers) (w .found) (w .ends);
-        small = weight-small (tempsOf q) (opensOf q) marks body (q .pool) room (marks-fit sizeOf body) (w .numbers) (w .found) (d .1);
-        largest = weight-largest (tempsOf q) (opensOf q) marks body (q .pool) room (marks-fit sizeOf body) (w .numbers) (w .found) (d .1);
-        first = peak-first (tempsOf q) (opensOf q) marks body (q .pool) room (marks-fit sizeOf body) (w .numbers) (w .found) (d .1);
-        met = callees-met (tempsOf q) (opensOf q) marks body (q .pool) room (marks-fit sizeOf body) (w .numbers) (w .found) (d .1);
+        small = weight-small (tempsOf q) (opensOf q) marks body (q .pool) room (body-fits sizeOf body) (w .numbers) (w .found) (d .1);
+        largest = weight-largest (tempsOf q) (opensOf q) marks body (q .pool) room (body-fits sizeOf body) (w .numbers) (w .found) (d .1);
+        first = peak-first (tempsOf q) (opensOf q) marks body (q .pool) room (body-fits sizeOf body) (w .numbers) (w .found) (d .1);
+        met = callees-met (tempsOf q) (opensOf q) marks body (q .pool) room (body-fits sizeOf body) (w .numbers) (w .found) (d .1);
       }
 
   module _ (room : Room) (cells : ℕ) (sound : PoolSound q room cells) where
@@ -90,16 +91,16 @@ module _ (q : PoolProgram) where
         let body = bodyOf (q .program) row in
         let marks = marksOf sizeOf body in
         let d = body-walked sizeOf (tempsOf q) (opensOf q) (q .pool) body (w .numbers) (w .found) (w .ends) in
-        let over = dominates (tempsOf q) (opensOf q) marks body (q .pool) (2 * length body + 2) (marks-fit sizeOf body) (w .numbers) (w .found) (d .1) in
+        let over = dominates (tempsOf q) (opensOf q) marks body (q .pool) (2 * length body + 2) (body-fits sizeOf body) (w .numbers) (w .found) (d .1) in
         record {
           decodes = w .decodes;
-          fits = marks-fit sizeOf body;
+          fits = body-fits sizeOf body;
           numbers = w .numbers;
           found = w .found;
           ends = w .ends;
           dominates = over;
           weighs = weight-is row inside (w .numbers) (w .found) (w .ends);
-          small = weight-small (tempsOf q) (opensOf q) marks body (q .pool) (2 * length body + 2) (marks-fit sizeOf body) (w .numbers) (w .found) (d .1);
+          small = weight-small (tempsOf q) (opensOf q) marks body (q .pool) (2 * length body + 2) (body-fits sizeOf body) (w .numbers) (w .found) (d .1);
           light = λ r. omega (arith, weight-is row inside (w .numbers) (w .found) (w .ends), tame-self (callGraph q) (q .pool) row (reached-tame row r));
           calls = λ offset held callee n o.
               calls-cells row inside (w .numbers) (w .found) (w .ends) few callee .1
@@ -114,14 +115,14 @@ module _ (q : PoolProgram) where
         let marks = marksOf sizeOf body in
         let room = 2 * length body + 2 in
         let d = body-walked sizeOf (tempsOf q) (opensOf q) (q .pool) body (s .numbers) (s .found) (s .ends) in
-        let x = weight-exact (tempsOf q) (opensOf q) marks body (q .pool) room (marks-fit sizeOf body) (s .numbers) (s .found) (d .1) (s .light r) in
+        let x = weight-exact (tempsOf q) (opensOf q) marks body (q .pool) room (body-fits sizeOf body) (s .numbers) (s .found) (d .1) (s .light r) in
         let p : peakOf (walkAt q row) ≡ s .found .peak = ap peakOf (s .ends) in
         record {
-          straight = walked-straight (tempsOf q) (opensOf q) marks body (q .pool) room (marks-fit sizeOf body) (s .numbers) (s .found) (d .1) (s .light r);
+          straight = walked-straight (tempsOf q) (opensOf q) marks body (q .pool) room (body-fits sizeOf body) (s .numbers) (s .found) (d .1) (s .light r);
           sums = λ pool offset held c. omega (arith, s .weighs, x .0 pool offset held c);
           made = rw (s .weighs, p) (x .1);
           calls = λ callee.
-              let c = callees-exact (tempsOf q) (opensOf q) marks body (q .pool) room (marks-fit sizeOf body) (s .numbers) (s .found) (d .1) (s .light r) (suc callee) in
+              let c = callees-exact (tempsOf q) (opensOf q) marks body (q .pool) room (body-fits sizeOf body) (s .numbers) (s .found) (d .1) (s .light r) (suc callee) in
               let g = calls-cells row inside (s .numbers) (s .found) (s .ends) few callee in
               (λ i. c .0 (g .0 i) .1, λ o. g .1 (c .1 ((λ z. omega arith), o)));
         }

@@ -105,7 +105,7 @@ fn checked(
     let sizes = tables::sizes();
     let words = tables::words();
     let mut hints = [0u16; 8192];
-    codes::note_rows(&mut hints, list_ids);
+    codes::note_for(&mut hints, list_ids, code.len());
     cells::clear_u8(marks);
     cells::clear_u32(depths);
     cells::clear_u8(callee_cells);

@@ -8,11 +8,10 @@ use mathlib.Core.Logic.{_↔_, _⊎_, ⊎-elim}
 use mathlib.Core.List.{List, [], _∷_}
 use native.Mathlib.Decide.{ℕ-discrete}
 use lib.ListN.{length, getD}
-use Rattle.cells.specs.Zeros.{zeros, length-zeros, any-zero}
 use Rattle.tables.specs.Set.{sizeOf, moveOf}
 use Rattle.flow.specs.declared.starts.Decoded.{Decoded}
-use Rattle.flow.specs.Walk.{walkBy, endOf, markAll, marksOf}
-use Rattle.flow.specs.Next.{marks-fit}
+use Rattle.flow.specs.Walk.{walkBy, endOf, marksOf}
+use Rattle.flow.specs.Next.{body-fits}
 use Rattle.program.specs.declared.Input.{Input}
 use Rattle.program.specs.declared.Room.{Room}
 use Rattle.program.specs.Program.{Program, bodyOf}
@@ -32,10 +31,7 @@ use Rattle.stack.specs.Exact.{Balanced, Sound}
 
 module _ (sizes : ℕ → ℕ) (known : Effects) (body : List ℕ) (maximum : ℕ) where
   bounded : (offset depth : ℕ) → Bounded (length body + 1) maximum (lookOf known (marksOf sizes body) body maximum offset depth)
-  unfolding marksOf
-  bounded =
-      let l = length-zeros (zeros (length body)) (length body) refl in
-      look-bounded known (marksOf sizes body) body maximum (marks-fit sizes body (zeros (length body)) (omega arith) (any-zero (zeros (length body)) (length body) refl))
+  bounded = look-bounded known (marksOf sizes body) body maximum (body-fits sizes body)
 
   -- the walk of the definition never runs out of its turns, on any body
   pub body-turns : (k : ℕ) → length body + 1 ≤ k → walkFrom (lookOf known (marksOf sizes body) body maximum) k (begun (length body + 1)) (0 ∷ []) ≡ walkOf (lookOf known (marksOf sizes body) body maximum) (length body + 1)

@@ -9,7 +9,7 @@ use lib.ListN.{length, getD, set, take, drop, length-take, length-drop}
 use Rattle.cells.specs.Zeros.{zeros, zeros-are, length-zeros, any-zero}
 use Rattle.flow.specs.declared.starts.Decoded.{Decoded}
 use Rattle.flow.specs.Walk.{walkBy, endOf, markAll, marksOf}
-use Rattle.flow.specs.Next.{marks-fit}
+use Rattle.flow.specs.Next.{marks-fit, marks-are}
 use Rattle.rules.specs.declared.Violation.{Violation}
 use Rattle.rules.specs.declared.Walked.{Walked}
 use Rattle.rules.specs.Look.{Effects, lookOf}
@@ -26,9 +26,8 @@ module _ (sizes : ℕ → ℕ) (known : Effects) (body : List ℕ) (maximum : �
   body-stops d e = ap (λ (w : Decoded). onDecoded w (walkOf (lookOf known (marksOf sizes body) body maximum) (length body + 1))) e
 
   pub body-walks : (marks first : List ℕ) → marks ≡ markAll (walkBy sizes body 0) first → first ≡ zeros (length body) → Decoded.Whole ≡ endOf (walkBy sizes body 0) → walkOf (lookOf known marks body maximum) (length body + 1) ≡ bodyAnswer sizes known body maximum
-  unfolding marksOf
   body-walks marks first m z e =
-      ap (λ (u : List ℕ). walkOf (lookOf known u body maximum) (length body + 1)) (m ∙ ap (markAll (walkBy sizes body 0)) z) ∙ body-stops Decoded.Whole e
+      ap (λ (u : List ℕ). walkOf (lookOf known u body maximum) (length body + 1)) (m ∙ ap (markAll (walkBy sizes body 0)) z ∙ sym (marks-are sizes body)) ∙ body-stops Decoded.Whole e
 
 pub marks-fitting : (sizes : ℕ → ℕ) (body marks first : List ℕ) → marks ≡ markAll (walkBy sizes body 0) first → first ≡ zeros (length body) → Fitting marks body
 marks-fitting sizes body marks first m z offset h =

@@ -25,14 +25,6 @@ pub enum Verdict {
     Violated { function: u16, violation: Violation },
 }
 
-// Hints for the code list, where the code is long enough to hold lookups that they pay for: every row is noted, be its id asked for or not, and
-// short programs were slower with hints. Nothing is promised of them, since nothing hangs on them.
-fn note_hints(hints: &mut [u16], list_ids: &[u16], bytes: usize) {
-    if list_ids.len() / 4 + 256 <= bytes {
-        codes::note_rows(hints, list_ids);
-    }
-}
-
 // The bodies of an input that is not refused, over scratch that may hold anything: what each function gives back is decoded once, all scratch
 // is cleared once. The walk queues no depths, so the second queue column holds the hints of the code list; any hints will do, so it need not be
 // cleared before.
@@ -59,7 +51,7 @@ fn checked(
     let words = tables::words();
     let mut given = [0u8; 128];
     effects::given_back(&mut given, &sizes, offsets, lengths, code);
-    note_hints(queue_depths, list_ids, code.len());
+    codes::note_for(queue_depths, list_ids, code.len());
     cells::clear_u8(marks);
     cells::clear_u32(depths);
     let verdict = bodies::all(
