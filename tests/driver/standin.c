@@ -23,7 +23,23 @@ enum {
     COPY_REGION_DEREF = 0xAE,
     CMP_BR_I32 = 0xF4,
     CMP_BR_I64 = 0xF5,
-    METHOD_CALL = 0xF8
+    METHOD_CALL = 0xF8,
+    // These matter to the pool check alone.
+    LOAD_CONST_STR = 0x08,
+    FB_CALL = 0xA4,
+    STR_LOAD_VAR = 0xBC,
+    STR_STORE_VAR = 0xC0,
+    REPLACE_STR = 0xCC,
+    INSERT_STR = 0xD0,
+    DELETE_STR = 0xD4,
+    LEFT_STR = 0xD8,
+    RIGHT_STR = 0xDC,
+    MID_STR = 0xE0,
+    CONCAT_STR = 0xE4,
+    STR_LOAD_ARRAY_ELEM = 0xEC,
+    STR_LOAD_ARRAY_DEREF = 0xED,
+    STR_STORE_ARRAY_ELEM = 0xF0,
+    STR_STORE_ARRAY_DEREF = 0xF1
 };
 
 // An opcode is class x 4 + tag. For each class: how many tags from 0 up are assigned, the bytes that operands take, and what an
@@ -326,5 +342,289 @@ uint32_t probe_stack(uint32_t *answer, size_t answer_n, uint8_t *marks, size_t m
     memset(queue, 0, queue_n * sizeof *queue);
     if (WRONG != 15)
         memset(queue_depths, 0, queue_depths_n * sizeof *queue_depths);
+    return answer[0];
+}
+
+// What a program has besides for the pool check, and what its bodies turn out to use.
+struct pooled {
+    const struct program *in;
+    const uint16_t *types, *callees, *entries;
+    size_t descriptors, entries_n;
+    uint32_t pool;
+    uint8_t *cells; // for each function the rows of its callees and 1, as they were met, then 0
+    uint32_t weights[128];
+    size_t peaks[128];
+};
+
+// The walk of one body: a ring of 2 n + 2 places, of which `waiting` are taken from `first` on.
+struct walk {
+    struct pooled *of;
+    size_t row;
+    const uint8_t *at;
+    size_t n, first, waiting;
+};
+
+static int temp_effect(uint8_t op) {
+    switch (op) {
+    case LOAD_CONST_STR:
+    case STR_LOAD_VAR:
+    case STR_LOAD_ARRAY_ELEM:
+    case STR_LOAD_ARRAY_DEREF:
+    case CONCAT_STR:
+    case LEFT_STR:
+    case RIGHT_STR:
+    case MID_STR:
+    case INSERT_STR:
+    case DELETE_STR:
+    case REPLACE_STR: return 1;
+    case STR_STORE_VAR:
+    case STR_STORE_ARRAY_ELEM:
+    case STR_STORE_ARRAY_DEREF: return -1;
+    default: return 0;
+    }
+}
+
+static size_t row_of(const struct program *in, uint32_t id) {
+    size_t row = 0;
+    while (row < in->functions && in->ids[row] != id)
+        row++;
+    return row;
+}
+
+// A callee that is in the directory gets a cell when it is first met.
+static void meet(struct walk *walk, uint32_t id) {
+    size_t callee = row_of(walk->of->in, WRONG == 30 ? id % 128 : id);
+    uint8_t *cell = walk->of->cells + 128 * walk->row;
+    if (callee == walk->of->in->functions)
+        return;
+    while (*cell && *cell != callee + 1)
+        cell++;
+    *cell = (uint8_t)(callee + 1);
+}
+
+static void meet_callee(struct walk *walk, const uint8_t *instruction) {
+    const struct pooled *of = walk->of;
+    uint32_t id = word_at(instruction + 1);
+    if (*instruction == CALL || (*instruction == METHOD_CALL && WRONG != 31))
+        meet(walk, id);
+    if (*instruction != FB_CALL)
+        return;
+    size_t found = of->descriptors;
+    for (size_t row = 0; row < of->descriptors; row++)
+        if (of->types[row] == id && (found == of->descriptors || WRONG == 32))
+            found = row;
+    if (found < of->descriptors)
+        meet(walk, of->callees[found]);
+    else if (WRONG == 33)
+        meet(walk, id);
+}
+
+// The larger number stays, and an offset that gets it waits for its turn; 23 if there is no place.
+static uint32_t raise_at(struct walk *walk, size_t to, uint32_t sum) {
+    const struct program *in = walk->of->in;
+    size_t room = 2 * walk->n + 2;
+    if (in->depths[to] > (WRONG == 34 ? 0 : sum))
+        return 0;
+    if (walk->waiting == room)
+        return 23;
+    in->depths[to] = sum + 1;
+    size_t place = (walk->first + walk->waiting++) % room;
+    in->queue[place] = (uint16_t)to;
+    in->queue_depths[place] = (uint16_t)sum;
+    return 0;
+}
+
+static int borrows(const struct program *in, const uint8_t *instruction) {
+    uint32_t id = word_at(instruction + 1);
+    return *instruction == BUILTIN && WRONG != 35 &&
+           probe_lookup(in->list_ids, in->rows, in->counts, in->rows, in->flags, in->rows, (uint16_t)id) / 2 % 2;
+}
+
+// One instruction with so many buffers before it: 0, 22 or 23.
+static uint32_t tread(struct walk *walk, size_t at, uint32_t sum) {
+    struct pooled *of = walk->of;
+    const uint8_t *instruction = walk->at + at;
+    int effect = temp_effect(*instruction);
+    if (WRONG != 36)
+        meet_callee(walk, instruction);
+    if (effect > 0 || borrows(of->in, instruction)) {
+        sum++;
+        if (WRONG == 37 && sum > of->pool)
+            return 0;
+        if (sum > of->weights[walk->row] || (WRONG == 38 && sum == of->weights[walk->row])) {
+            of->weights[walk->row] = sum;
+            of->peaks[walk->row] = at;
+        }
+        if (sum > of->pool || (WRONG == 39 && sum == of->pool))
+            return 0;
+    } else if (effect < 0) {
+        if (sum == 0 && WRONG == 40)
+            return 0;
+        sum -= sum > 0 && WRONG != 41;
+    }
+    size_t next = at + probe_size(*instruction);
+    uint32_t flow = probe_flow(*instruction, instruction + 1, next - at - 1);
+    if (flow % 4 == 0)
+        return raise_at(walk, next, sum);
+    if (flow % 4 == 3)
+        return 0;
+    uint64_t target = probe_target(next, (uint16_t)(flow / 4), of->in->marks, walk->n, walk->n);
+    if (target % 2 == 0 || (WRONG == 42 && target / 2 == walk->n))
+        return WRONG == 43 ? 0 : 22;
+    uint32_t number = 0;
+    if (WRONG == 44 && flow % 4 == 2)
+        number = raise_at(walk, next, sum);
+    if (number == 0)
+        number = raise_at(walk, (size_t)(target / 2), sum);
+    if (number == 0 && flow % 4 == 2)
+        number = raise_at(walk, next, sum);
+    return number;
+}
+
+// Every branch and every call, reached or not: what a walk must not look at.
+static uint32_t look_everywhere(struct walk *walk) {
+    const struct program *in = walk->of->in;
+    for (size_t at = 0; at < walk->n; at += in->marks[at]) {
+        size_t next = at + in->marks[at];
+        uint32_t flow = probe_flow(walk->at[at], walk->at + at + 1, next - at - 1);
+        if (WRONG == 36)
+            meet_callee(walk, walk->at + at);
+        if (WRONG == 45 && flow % 4 % 3 != 0 &&
+            probe_target(next, (uint16_t)(flow / 4), in->marks, walk->n, walk->n) % 2 == 0)
+            return 22;
+    }
+    return 0;
+}
+
+static uint32_t walk_body(struct walk *walk) {
+    const struct program *in = walk->of->in;
+    uint32_t stop = probe_starts(walk->at, walk->n, in->marks, walk->n);
+    if (stop && WRONG != 46)
+        return 22;
+    uint32_t number = WRONG == 36 || WRONG == 45 ? look_everywhere(walk) : 0;
+    if (number == 0)
+        number = raise_at(walk, 0, 0);
+    while (number == 0 && walk->waiting > 0) {
+        size_t room = 2 * walk->n + 2;
+        size_t turn = (WRONG == 47 ? walk->first + walk->waiting - 1 : walk->first) % room;
+        walk->first = (WRONG == 47 ? walk->first : walk->first + 1) % room;
+        walk->waiting--;
+        size_t at = in->queue[turn];
+        uint32_t sum = in->queue_depths[turn];
+        if (WRONG == 46 && stop && at == stop / 4)
+            return 22;
+        if (at < walk->n && (in->depths[at] == sum + 1 || WRONG == 48))
+            number = tread(walk, at, sum);
+    }
+    return number;
+}
+
+enum { UNSEEN, OPEN, CLOSED };
+
+// The depth-first visit from one entry.
+struct visit {
+    const struct pooled *of;
+    uint8_t colours[128];
+    uint32_t totals[128];
+    uint32_t *answer;
+};
+
+// 0 if the function closes within the pool, else 20 or 21.
+static uint32_t visit(struct visit *v, size_t row, size_t caller) {
+    const struct pooled *of = v->of;
+    const uint16_t *ids = of->in->ids;
+    uint32_t largest = 0;
+    v->colours[row] = OPEN;
+    for (size_t i = 0; i < 128; i++) {
+        uint8_t cell = of->cells[128 * row + (WRONG == 49 ? 127 - i : i)];
+        if (cell == 0 && WRONG != 49)
+            break;
+        if (cell == 0)
+            continue;
+        size_t callee = cell - 1u;
+        if (v->colours[callee] == OPEN)
+            return say(v->answer, 21, ids[WRONG == 50 ? row : callee], 0, 0, 0, 0);
+        if (v->colours[callee] == UNSEEN && visit(v, callee, row))
+            return v->answer[0];
+        if (v->totals[callee] > largest)
+            largest = v->totals[callee];
+    }
+    uint32_t weight = of->weights[row];
+    uint32_t total = WRONG == 51 ? (weight > largest ? weight : largest) : weight + largest;
+    if (WRONG == 52)
+        total %= 65536;
+    if (total > 65535)
+        total = 65535;
+    if (total > of->pool && !(WRONG == 53 && caller < 128))
+        return say(v->answer, 20, ids[row], WRONG == 54 ? 0 : of->peaks[row], total, of->pool, 0);
+    v->totals[row] = total;
+    v->colours[row] = WRONG == 55 ? OPEN : CLOSED;
+    return 0;
+}
+
+static uint32_t visit_entries(const struct pooled *of, uint32_t *answer) {
+    size_t last = WRONG == 56 && of->entries_n > 1 ? 1 : of->entries_n;
+    for (size_t i = 0; i < last; i++) {
+        size_t row = row_of(of->in, of->entries[i]);
+        struct visit from = {of, {UNSEEN}, {0}, answer};
+        if (row == of->in->functions && WRONG == 57)
+            break;
+        if (row < of->in->functions && visit(&from, row, 128))
+            return answer[0];
+    }
+    return say(answer, 0, 0, 0, 0, 0, 0);
+}
+
+static uint32_t check_pool(struct pooled *of, uint32_t *answer) {
+    const struct program *in = of->in;
+    memset(of->cells, 0, 128 * 128);
+    for (size_t i = 0; i < in->functions; i++) {
+        size_t row = WRONG == 58 ? in->functions - 1 - i : i;
+        struct walk walk = {of, row, in->code + in->offsets[row], in->lengths[row], 0, 0};
+        memset(in->marks, 0, in->code_n);
+        memset(in->depths, 0, (in->code_n + 1) * sizeof *in->depths);
+        uint32_t number = walk_body(&walk);
+        if (number)
+            return say(answer, number, in->ids[row], 0, 0, 0, 0);
+        if (WRONG == 59 && of->weights[row] > of->pool)
+            return say(answer, 20, in->ids[row], of->peaks[row], of->weights[row], of->pool, 0);
+    }
+    return visit_entries(of, answer);
+}
+
+uint32_t probe_pool(uint32_t *answer, size_t answer_n, uint8_t *marks, size_t marks_n, uint32_t *depths, size_t depths_n,
+                    uint16_t *queue, size_t queue_n, uint16_t *queue_depths, size_t queue_depths_n, uint8_t *cells,
+                    size_t cells_n, const uint16_t *ids, size_t ids_n, const uint16_t *parameters, size_t parameters_n,
+                    const uint16_t *maxima, size_t maxima_n, const size_t *offsets, size_t offsets_n, const size_t *lengths,
+                    size_t lengths_n, const uint16_t *list_ids, size_t list_ids_n, const uint16_t *counts, size_t counts_n,
+                    const uint16_t *flags, size_t flags_n, const uint8_t *code, size_t code_n, const uint16_t *types,
+                    size_t types_n, const uint16_t *callees, size_t callees_n, const uint16_t *entries, size_t entries_n,
+                    uint16_t pool) {
+    const struct program in = {ids,     parameters, maxima, list_ids,   counts, flags,  offsets, lengths,
+                               code,    ids_n,      list_ids_n, code_n, marks,  depths, queue,   queue_depths};
+    size_t descriptors = types_n < callees_n ? types_n : callees_n;
+    struct pooled of = {&in, types, callees, entries, descriptors, entries_n, pool, cells, {0}, {0}};
+    if (answer_n != 6)
+        return 30;
+    if (ids_n > 128 || parameters_n != ids_n || maxima_n != ids_n || offsets_n != ids_n || lengths_n != ids_n ||
+        list_ids_n > 6144 || counts_n != list_ids_n || flags_n != list_ids_n || code_n > 12288 ||
+        types_n > (WRONG == 60 ? 255 : 256) || (callees_n != types_n && WRONG != 61) || entries_n > (WRONG == 62 ? 31 : 32))
+        return say(answer, 31, 0, 0, 0, 0, 0);
+    if (marks_n < code_n || depths_n < code_n + 1 || queue_n < 2 * code_n + 2 || queue_depths_n < 2 * code_n + 2 ||
+        cells_n < (WRONG == 63 ? 16383 : 16384))
+        return say(answer, 30, 0, 0, 0, 0, 0);
+    if (WRONG == 64 && pool == 65535)
+        return say(answer, 35, 0, 0, 0, 0, 0);
+    if (refused(&in, answer))
+        return answer[0];
+    if (pool == 65535 && WRONG != 65)
+        return say(answer, 35, 0, 0, 0, 0, 0);
+    check_pool(&of, answer);
+    memset(marks, 0, marks_n);
+    memset(depths, 0, depths_n * sizeof *depths);
+    memset(queue, 0, queue_n * sizeof *queue);
+    memset(queue_depths, 0, queue_depths_n * sizeof *queue_depths);
+    if (WRONG != 66)
+        memset(cells, 0, WRONG == 67 ? 16384 : cells_n);
     return answer[0];
 }
