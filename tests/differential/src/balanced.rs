@@ -15,13 +15,13 @@ pub struct Callee {
 }
 
 /// Aims at the body's length.
-const END: usize = usize::MAX;
+pub const END: usize = usize::MAX;
 
 /// An instruction, and for a branch the instruction that it is aimed at.
 #[derive(Clone, Debug)]
-struct Item {
-    bytes: Vec<u8>,
-    to: Option<usize>,
+pub struct Item {
+    pub bytes: Vec<u8>,
+    pub to: Option<usize>,
 }
 
 pub struct Writer<'a> {
@@ -313,25 +313,29 @@ impl<'a> Writer<'a> {
         self.insert(at, bytes);
     }
 
-    /// The bytes, with each branch's offset word.
     pub fn assemble(&self) -> Vec<u8> {
-        let mut starts = Vec::with_capacity(self.items.len());
-        let mut length = 0;
-        for item in &self.items {
-            starts.push(length);
-            length += item.bytes.len();
-        }
-        let mut body = Vec::with_capacity(length);
-        for item in &self.items {
-            body.extend(&item.bytes);
-            if let Some(to) = item.to {
-                let target = starts.get(to).copied().unwrap_or(length);
-                let next = body.len();
-                let word = (target as isize - next as isize) as i16;
-                // In every branching instruction the offset is the last operand.
-                body[next - 2..next].copy_from_slice(&word.to_le_bytes());
-            }
-        }
-        body
+        assemble(&self.items)
     }
+}
+
+/// The bytes, with each branch's offset word.
+pub fn assemble(items: &[Item]) -> Vec<u8> {
+    let mut starts = Vec::with_capacity(items.len());
+    let mut length = 0;
+    for item in items {
+        starts.push(length);
+        length += item.bytes.len();
+    }
+    let mut body = Vec::with_capacity(length);
+    for item in items {
+        body.extend(&item.bytes);
+        if let Some(to) = item.to {
+            let target = starts.get(to).copied().unwrap_or(length);
+            let next = body.len();
+            let word = (target as isize - next as isize) as i16;
+            // In every branching instruction the offset is the last operand.
+            body[next - 2..next].copy_from_slice(&word.to_le_bytes());
+        }
+    }
+    body
 }

@@ -38,11 +38,16 @@ mod file_format;
 mod files;
 mod observe;
 mod pipe;
+mod pool;
+mod pool_program;
+mod pool_refused;
+mod pools;
 mod program;
 mod programs;
 mod random;
 mod reading;
 mod record;
+mod record_pool;
 mod record_stack;
 mod refused;
 mod stack;
@@ -62,10 +67,13 @@ const USAGE: &str = "usage: differential COMMAND
   tables [DIR]                      tables.txt and tables.bin
   record SEED COUNT [DIR]           bodies.bin and targets.bin
   record-stack SEED COUNT [DIR]     programs.bin
+  record-pool SEED COUNT [DIR]      pools.bin
   compare SEED COUNT -- DRIVER..    the same questions to document 000 and to a driver (tests/driver/PROTOCOL.md)
   stack SEED COUNT [--exhaustive3] -- DRIVER..
                                     the stack check of document 000 and of a driver, on random programs and on every body
                                     of up to two bytes, or three
+  pool SEED COUNT -- DRIVER..       the pool check of document 000 and of a driver, on random programs and on every pair of
+                                    instructions
   file SEED COUNT -- DRIVER..       the bench file's reader and writer of this crate and of a driver, on random files
   differences                       what document 000 says on the inputs of docs/DIFFERENCES.md
   bench [file]                      timings, all or of the bench file (built with --features bench)
@@ -105,6 +113,11 @@ fn run(words: &[&str]) -> Report {
         }
         ["stack", seed, count, "--exhaustive3", "--", driver @ ..] if !driver.is_empty() => {
             stack::run(number(seed)?, number(count)?, true, driver)
+        }
+        ["record-pool", seed, count] => record_pool::run(number(seed)?, number(count)?, Path::new(DATA)),
+        ["record-pool", seed, count, dir] => record_pool::run(number(seed)?, number(count)?, Path::new(dir)),
+        ["pool", seed, count, "--", driver @ ..] if !driver.is_empty() => {
+            pool::run(number(seed)?, number(count)?, driver)
         }
         ["file", seed, count, "--", driver @ ..] if !driver.is_empty() => {
             file::run(number(seed)?, number(count)?, driver)

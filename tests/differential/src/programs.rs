@@ -17,14 +17,14 @@ pub enum Names {
 }
 
 impl Names {
-    fn of(self, id: u16) -> u16 {
+    pub fn of(self, id: u16) -> u16 {
         match self {
             Names::Flipped(bits) => id ^ bits,
             Names::Spread { odd, from } => id.wrapping_mul(odd).wrapping_add(from),
         }
     }
 
-    fn random(source: &mut Bodies) -> Names {
+    pub fn random(source: &mut Bodies) -> Names {
         let random = &mut source.random;
         match random.below(3) {
             0 => Names::Flipped(random.one_of(&[1, 2, 3, 5, 64, 127, 128, 256, u16::MAX])),
@@ -89,9 +89,9 @@ pub struct Programs {
 }
 
 /// One body, before it has a place.
-struct Body {
-    bytes: Vec<u8>,
-    peak: u16,
+pub struct Body {
+    pub bytes: Vec<u8>,
+    pub peak: u16,
 }
 
 impl Programs {
@@ -167,7 +167,7 @@ impl Programs {
         Made { program, layout, names }
     }
 
-    fn callees(&mut self, count: usize) -> Vec<Callee> {
+    pub fn callees(&mut self, count: usize) -> Vec<Callee> {
         let random = &mut self.source.random;
         (0..count)
             .map(|at| {
@@ -196,7 +196,7 @@ impl Programs {
         Body { bytes, peak }
     }
 
-    fn damage(&mut self, body: &mut Vec<u8>) {
+    pub fn damage(&mut self, body: &mut Vec<u8>) {
         if body.is_empty() {
             return;
         }
@@ -228,7 +228,7 @@ impl Programs {
     }
 
     /// A body of no plan, behind some values.
-    fn noise(&mut self, budget: usize) -> Body {
+    pub fn noise(&mut self, budget: usize) -> Body {
         let values = self.source.random.between(0, 8);
         let mut bytes = vec![opcode::LOAD_TRUE; values];
         bytes.extend(self.source.any(budget * 2));
@@ -236,7 +236,7 @@ impl Programs {
     }
 
     /// The bodies one after the other in any order, now and then with bytes between them that belong to none.
-    fn lay_out(&mut self, callees: &[Callee], bodies: &[Body]) -> Program {
+    pub fn lay_out(&mut self, callees: &[Callee], bodies: &[Body]) -> Program {
         let random = &mut self.source.random;
         let mut order: Vec<usize> = (0..bodies.len()).collect();
         if random.below(2) == 0 {
@@ -271,7 +271,7 @@ impl Programs {
     }
 
     /// Some functions get another's body, or a part of the code from anywhere to anywhere.
-    fn move_bodies(&mut self, program: &mut Program, layout: Layout) {
+    pub fn move_bodies(&mut self, program: &mut Program, layout: Layout) {
         let random = &mut self.source.random;
         let count = program.functions.len();
         if count == 0 {

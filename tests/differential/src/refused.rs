@@ -1,7 +1,7 @@
 //! Inputs that the stack call refuses, 30 to 34: columns of any lengths with faults, and what 01 says of them, read apart from the
 //! crates. Document 000 has no refusals.
 
-use crate::export::ROW_LIMIT;
+use crate::export::{Row, ROW_LIMIT};
 use crate::program::{Function, Numbers, Program, CODE_LIMIT, FUNCTION_LIMIT};
 use crate::programs::Programs;
 use crate::random::Random;
@@ -83,11 +83,13 @@ impl Columns {
     }
 }
 
-/// A random program in the exported list, as columns, with up to four faults or near faults.
+/// A random program in the exported list, with up to four faults or near faults.
 pub fn any(programs: &mut Programs) -> Columns {
     let program = programs.any().program;
-    let list = &programs.list;
-    let random = &mut programs.source.random;
+    faulty(program, &programs.list, &mut programs.source.random)
+}
+
+pub fn faulty(program: Program, list: &[Row], random: &mut Random) -> Columns {
     let spare = random.between(0, 3);
     let mut columns = Columns {
         room: needed(program.code.len()).map(|cells| cells + spare),
@@ -149,7 +151,7 @@ fn grow(columns: &mut Columns, random: &mut Random) {
 }
 
 /// Adds or takes a cell.
-fn misfit<T: Copy + Default>(column: &mut Vec<T>, random: &mut Random) {
+pub fn misfit<T: Copy + Default>(column: &mut Vec<T>, random: &mut Random) {
     if column.is_empty() || random.below(2) == 0 {
         column.push(T::default());
     } else {

@@ -127,7 +127,7 @@ fn call(op: u8) -> Result<Kind, String> {
 }
 
 /// The temp effect: a borrow alone passes pool 0; a give-back lets a borrow on each side of it do with pool 1.
-fn temp(op: u8) -> Result<i8, String> {
+pub fn temp(op: u8) -> Result<i8, String> {
     let looked_at = instruction(op, 0);
     if observe::pool(&looked_at, 0)? == 1 {
         return Ok(1);
