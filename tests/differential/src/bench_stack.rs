@@ -139,12 +139,12 @@ fn line(name: &str, programs: &[Program], list: &[Row], rounds: usize) -> Report
     Ok(format!("{name:<36} {a}  {b}  {times}\n"))
 }
 
-fn function(id: usize, parameters: u16, offset: usize, length: usize) -> Function {
+pub fn function(id: usize, parameters: u16, offset: usize, length: usize) -> Function {
     Function { id: id as u16, parameters, maximum: 64, offset, length }
 }
 
 /// One-byte instructions of every sort with a fixed effect, which end at `left`.
-fn straight(programs: &mut Programs, length: usize, left: usize) -> Vec<u8> {
+pub fn straight(programs: &mut Programs, length: usize, left: usize) -> Vec<u8> {
     let mut body = Vec::with_capacity(length);
     let mut depth = 0;
     while body.len() < length {
@@ -164,12 +164,12 @@ fn straight(programs: &mut Programs, length: usize, left: usize) -> Vec<u8> {
 }
 
 /// The rows with up to three arguments.
-fn few(list: &[Row]) -> Vec<Row> {
+pub fn few(list: &[Row]) -> Vec<Row> {
     list.iter().copied().filter(|row| row.count <= 3).collect()
 }
 
 /// So many BUILTINs, drawn from these rows; the first argument is the result before.
-fn builtins(programs: &mut Programs, few: &[Row], count: usize) -> Program {
+pub fn builtins(programs: &mut Programs, few: &[Row], count: usize) -> Program {
     let mut body = vec![opcode::LOAD_TRUE];
     for _ in 0..count {
         let row = programs.source.random.one_of(few);
@@ -182,7 +182,7 @@ fn builtins(programs: &mut Programs, few: &[Row], count: usize) -> Program {
 }
 
 /// The list with as many rows more as the limit allows, which nobody asks for.
-fn longest_list(list: &[Row]) -> Vec<Row> {
+pub fn longest_list(list: &[Row]) -> Vec<Row> {
     let mut rows = list.to_vec();
     for id in (0..=u16::MAX).step_by(7) {
         if rows.len() < ROW_LIMIT && list.iter().all(|row| row.id != id) {
@@ -194,7 +194,7 @@ fn longest_list(list: &[Row]) -> Vec<Row> {
 }
 
 /// 128 functions of 96 bytes, each with eight calls of others with two values.
-fn callers(programs: &mut Programs) -> Program {
+pub fn callers(programs: &mut Programs) -> Program {
     let mut program = Program::default();
     for id in 0..128 {
         let offset = program.code.len();
@@ -209,7 +209,7 @@ fn callers(programs: &mut Programs) -> Program {
 }
 
 /// Forty METHOD_CALLs of one method of 4,000 bytes, whose RET is its last byte.
-fn methods(programs: &mut Programs) -> Program {
+pub fn methods(programs: &mut Programs) -> Program {
     let mut code = Vec::new();
     for _ in 0..40 {
         code.extend([opcode::METHOD_CALL, 1, 0, 0, 0, 0, 0, 0, opcode::POP]);
@@ -221,7 +221,7 @@ fn methods(programs: &mut Programs) -> Program {
 }
 
 /// Random programs that document 000 accepts, with so many code bytes.
-fn accepted(programs: &mut Programs, count: usize, least: usize, most: usize) -> Vec<Program> {
+pub fn accepted(programs: &mut Programs, count: usize, least: usize, most: usize) -> Vec<Program> {
     let mut found = Vec::new();
     while found.len() < count {
         let program = programs.any().program;

@@ -26,6 +26,8 @@ mod balanced;
 mod bench;
 #[cfg(feature = "bench")]
 mod bench_file;
+#[cfg(all(feature = "bench", probe_pool))]
+mod bench_pool;
 #[cfg(feature = "bench")]
 mod bench_stack;
 mod bodies;
@@ -76,7 +78,7 @@ const USAGE: &str = "usage: differential COMMAND
                                     instructions
   file SEED COUNT -- DRIVER..       the bench file's reader and writer of this crate and of a driver, on random files
   differences                       what document 000 says on the inputs of docs/DIFFERENCES.md
-  bench [file]                      timings, all or of the bench file (built with --features bench)
+  bench [file | pool]               timings, all, or of the bench file or the pool check (built with --features bench)
 DIR is crates/replay/data where it is not given.";
 
 fn main() -> ExitCode {
@@ -127,6 +129,8 @@ fn run(words: &[&str]) -> Report {
         ["bench"] => bench::run(),
         #[cfg(feature = "bench")]
         ["bench", "file"] => bench::file(),
+        #[cfg(feature = "bench")]
+        ["bench", "pool"] => bench::pool(),
         _ => Err(USAGE.into()),
     }
 }
