@@ -354,6 +354,7 @@ struct pooled {
     uint8_t *cells; // for each function the rows of its callees and 1, as they were met, then 0
     uint32_t weights[128];
     size_t peaks[128];
+    uint32_t *live; // what a function holds at most where it calls: only an error looks at this
 };
 
 // The walk of one body: a ring of 2 n + 2 places, of which `waiting` are taken from `first` on.
@@ -362,6 +363,7 @@ struct walk {
     size_t row;
     const uint8_t *at;
     size_t n, first, waiting;
+    uint32_t sum; // before the instruction that is walked
 };
 
 static int temp_effect(uint8_t op) {
@@ -400,15 +402,18 @@ static void meet(struct walk *walk, uint32_t id) {
     while (*cell && *cell != callee + 1)
         cell++;
     *cell = (uint8_t)(callee + 1);
+    uint32_t *live = walk->of->live + (cell - walk->of->cells);
+    if (walk->sum > *live)
+        *live = walk->sum;
 }
 
 static void meet_callee(struct walk *walk, const uint8_t *instruction) {
     const struct pooled *of = walk->of;
-    uint32_t id = word_at(instruction + 1);
     if (*instruction == CALL || (*instruction == METHOD_CALL && WRONG != 31))
-        meet(walk, id);
+        meet(walk, word_at(instruction + 1));
     if (*instruction != FB_CALL)
         return;
+    uint32_t id = word_at(instruction + 1);
     size_t found = of->descriptors;
     for (size_t row = 0; row < of->descriptors; row++)
         if (of->types[row] == id && (found == of->descriptors || WRONG == 32))
@@ -435,9 +440,10 @@ static uint32_t raise_at(struct walk *walk, size_t to, uint32_t sum) {
 }
 
 static int borrows(const struct program *in, const uint8_t *instruction) {
-    uint32_t id = word_at(instruction + 1);
-    return *instruction == BUILTIN && WRONG != 35 &&
-           probe_lookup(in->list_ids, in->rows, in->counts, in->rows, in->flags, in->rows, (uint16_t)id) / 2 % 2;
+    if (*instruction != BUILTIN || WRONG == 35)
+        return 0;
+    uint16_t id = (uint16_t)word_at(instruction + 1);
+    return probe_lookup(in->list_ids, in->rows, in->counts, in->rows, in->flags, in->rows, id) / 2 % 2;
 }
 
 // One instruction with so many buffers before it: 0, 22 or 23.
@@ -445,6 +451,7 @@ static uint32_t tread(struct walk *walk, size_t at, uint32_t sum) {
     struct pooled *of = walk->of;
     const uint8_t *instruction = walk->at + at;
     int effect = temp_effect(*instruction);
+    walk->sum = sum;
     if (WRONG != 36)
         meet_callee(walk, instruction);
     if (effect > 0 || borrows(of->in, instruction)) {
@@ -546,11 +553,14 @@ static uint32_t visit(struct visit *v, size_t row, size_t caller) {
             return say(v->answer, 21, ids[WRONG == 50 ? row : callee], 0, 0, 0, 0);
         if (v->colours[callee] == UNSEEN && visit(v, callee, row))
             return v->answer[0];
-        if (v->totals[callee] > largest)
-            largest = v->totals[callee];
+        uint32_t above = v->totals[callee] + (WRONG == 68 ? of->live[128 * row + i] : 0);
+        if (above > largest)
+            largest = above;
     }
     uint32_t weight = of->weights[row];
-    uint32_t total = WRONG == 51 ? (weight > largest ? weight : largest) : weight + largest;
+    uint32_t total = weight + largest;
+    if (WRONG == 51 || WRONG == 68)
+        total = weight > largest ? weight : largest;
     if (WRONG == 52)
         total %= 65536;
     if (total > 65535)
@@ -580,7 +590,7 @@ static uint32_t check_pool(struct pooled *of, uint32_t *answer) {
     memset(of->cells, 0, 128 * 128);
     for (size_t i = 0; i < in->functions; i++) {
         size_t row = WRONG == 58 ? in->functions - 1 - i : i;
-        struct walk walk = {of, row, in->code + in->offsets[row], in->lengths[row], 0, 0};
+        struct walk walk = {of, row, in->code + in->offsets[row], in->lengths[row], 0, 0, 0};
         memset(in->marks, 0, in->code_n);
         memset(in->depths, 0, (in->code_n + 1) * sizeof *in->depths);
         uint32_t number = walk_body(&walk);
@@ -603,7 +613,10 @@ uint32_t probe_pool(uint32_t *answer, size_t answer_n, uint8_t *marks, size_t ma
     const struct program in = {ids,     parameters, maxima, list_ids,   counts, flags,  offsets, lengths,
                                code,    ids_n,      list_ids_n, code_n, marks,  depths, queue,   queue_depths};
     size_t descriptors = types_n < callees_n ? types_n : callees_n;
-    struct pooled of = {&in, types, callees, entries, descriptors, entries_n, pool, cells, {0}, {0}};
+    static uint32_t live[128 * 128];
+    if (WRONG == 68)
+        memset(live, 0, sizeof live);
+    struct pooled of = {&in, types, callees, entries, descriptors, entries_n, pool, cells, {0}, {0}, live};
     if (answer_n != 6)
         return 30;
     if (ids_n > 128 || parameters_n != ids_n || maxima_n != ids_n || offsets_n != ids_n || lengths_n != ids_n ||

@@ -25,7 +25,7 @@ const STYLES: [[usize; 8]; 6] = [
 
 /// A loop that grows is walked as often as the pool is large. Above this pool bodies have loops only now and then.
 const SMALL: u16 = 60;
-const SELDOM: usize = 60;
+const SELDOM: usize = 20;
 
 /// Ids of function block types come from few numbers, so that many are the same.
 const TYPES: [u16; 8] = [0, 1, 2, 3, 7, 256, 32_768, u16::MAX];
