@@ -117,3 +117,49 @@ pub extern "C" fn probe_stack(
     );
     put_fields(answer, stack::fields(verdict))
 }
+
+// The pool call: its six fields go into the answer.
+#[no_mangle]
+pub extern "C" fn probe_pool(
+    answer: &mut [u32],
+    marks: &mut [u8],
+    depths: &mut [u32],
+    queue: &mut [u16],
+    queue_depths: &mut [u16],
+    callee_cells: &mut [u8],
+    ids: &[u16],
+    parameters: &[u16],
+    maxima: &[u16],
+    offsets: &[usize],
+    lengths: &[usize],
+    list_ids: &[u16],
+    counts: &[u16],
+    flags: &[u16],
+    code: &[u8],
+    types: &[u16],
+    callees: &[u16],
+    entries: &[u16],
+    pool: u16,
+) -> u32 {
+    let verdict = pool::pool_check(
+        marks,
+        depths,
+        queue,
+        queue_depths,
+        callee_cells,
+        ids,
+        parameters,
+        maxima,
+        offsets,
+        lengths,
+        list_ids,
+        counts,
+        flags,
+        code,
+        types,
+        callees,
+        entries,
+        pool,
+    );
+    put_fields(answer, pool::fields(verdict))
+}
