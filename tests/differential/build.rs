@@ -15,7 +15,6 @@ fn main() {
     let root = package.join("../..").canonicalize().unwrap();
     let out = PathBuf::from(env::var("OUT_DIR").unwrap());
     println!("cargo:rerun-if-changed=build.rs");
-    println!("cargo:rustc-check-cfg=cfg(probe_pool)");
     write_modules(&root, &out);
     if env::var_os("CARGO_FEATURE_BENCH").is_some() {
         println!("cargo:rustc-link-search=native={}", out.display());
@@ -52,10 +51,6 @@ fn link_probes(root: &Path, out: &Path, name: &str, variable: &str) {
         panic!("{}: {why} ({variable})", archive.display());
     }
     println!("cargo:rustc-link-lib=static={name}");
-    // A library without the pool check can be timed too, all but that.
-    if fs::read(&archive).is_ok_and(|bytes| bytes.windows(10).any(|part| part == b"probe_pool")) {
-        println!("cargo:rustc-cfg=probe_pool");
-    }
 }
 
 fn link_hop(root: &Path, out: &Path) {

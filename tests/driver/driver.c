@@ -7,9 +7,6 @@
 
 enum { SIZES = 1, BODY = 2, LIST = 3, LOOKUP = 4, COLUMNS = 5, PROGRAMS = 6, POOL_COLUMNS = 9, POOL_PROGRAMS = 10 };
 
-// A library without the pool check can be linked too; it is then not asked for one.
-#pragma weak probe_pool
-
 static struct bytes marks;
 static uint16_t *ids, *counts, *flags;
 static size_t rows;
@@ -224,8 +221,6 @@ static struct words types, callees, entries;
 // The pool check of the functions, descriptors and entries read last, as `answer_stack`.
 static void answer_pool(struct words list_ids, struct words list_counts, struct words list_flags, const uint8_t *code,
                         size_t code_n, uint16_t pool) {
-    if (!probe_pool)
-        stop("the library has no pool check");
     uint32_t numbers[7];
     memset(numbers, FILL, sizeof numbers);
     uint32_t behind = numbers[6];

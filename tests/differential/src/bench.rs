@@ -169,16 +169,6 @@ pub fn file() -> Report {
     crate::bench_file::run(heads)
 }
 
-#[cfg(probe_pool)]
-pub fn pool() -> Report {
-    crate::bench_pool::run()
-}
-
-#[cfg(not(probe_pool))]
-pub fn pool() -> Report {
-    Ok("the library has no pool check: it was not timed\n".into())
-}
-
 pub fn run() -> Report {
     let sizes: [u8; 256] = std::array::from_fn(|op| opcode::instruction_size(op as u8) as u8);
     let every: Vec<u8> = (0..=u8::MAX).filter(|&op| opcode::is_assigned(op)).collect();
@@ -197,7 +187,7 @@ pub fn run() -> Report {
     report += "\n";
     report += &crate::bench_stack::run()?;
     report += "\n";
-    report += &pool()?;
+    report += &crate::bench_pool::run()?;
     report += "\n";
     report += &file()?;
     Ok(report)

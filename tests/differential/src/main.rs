@@ -26,7 +26,7 @@ mod balanced;
 mod bench;
 #[cfg(feature = "bench")]
 mod bench_file;
-#[cfg(all(feature = "bench", probe_pool))]
+#[cfg(feature = "bench")]
 mod bench_pool;
 #[cfg(feature = "bench")]
 mod bench_stack;
@@ -130,7 +130,7 @@ fn run(words: &[&str]) -> Report {
         #[cfg(feature = "bench")]
         ["bench", "file"] => bench::file(),
         #[cfg(feature = "bench")]
-        ["bench", "pool"] => bench::pool(),
+        ["bench", "pool"] => bench_pool::run(),
         _ => Err(USAGE.into()),
     }
 }
