@@ -15,7 +15,7 @@ use Rattle.pool.proofs.checked.Lts as lts
 use Rattle.cells.proofs.clear_u16.Reads as clear-u16-reads
 use Rattle.cells.proofs.clear_u32.Reads as clear-u32-reads
 use Rattle.cells.proofs.clear_u8.Reads as clear-u8-reads
-use Rattle.codes.proofs.note_rows.Reads as note-rows-reads
+use Rattle.codes.proofs.note_for.Reads as note-for-reads
 use Rattle.pool.proofs.bodies.all.Reads as all-reads
 use Rattle.pool.proofs.judged.Reads as judged-reads
 use Rattle.tables.proofs.sizes.Reads as sizes-reads
@@ -30,12 +30,12 @@ words-requires : tie.Need-words-requires
 words-requires c κs = search needs
 
 -- src/lib.rt:108:22
-slice-aggregate-note-rows : tie.Need-slice-aggregate-note-rows
-slice-aggregate-note-rows c = search needs
+slice-aggregate-note-for : tie.Need-slice-aggregate-note-for
+slice-aggregate-note-for c = search needs
 
 -- src/lib.rt:108:5
-note-rows-requires : tie.Need-note-rows-requires
-note-rows-requires c κs = search needs
+note-for-requires : tie.Need-note-for-requires
+note-for-requires c κs = search needs
 
 -- src/lib.rt:109:5
 clear-u8-requires : tie.Need-clear-u8-requires
@@ -103,8 +103,8 @@ checked-spec =
     (tie.spec
     sizes-requires
     words-requires
-    slice-aggregate-note-rows
-    note-rows-requires
+    slice-aggregate-note-for
+    note-for-requires
     clear-u8-requires
     clear-u32-requires
     clear-u8-requires-2

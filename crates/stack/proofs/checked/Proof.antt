@@ -22,8 +22,8 @@ slice-aggregate-given-back c = search needs
 given-back-requires : tie.Need-given-back-requires
 given-back-requires c κs = search needs
 
-note-hints-requires : tie.Need-note-hints-requires
-note-hints-requires c κs = search needs
+note-for-requires : tie.Need-note-for-requires
+note-for-requires c κs = search needs
 
 clear-u8-requires : tie.Need-clear-u8-requires
 clear-u8-requires c κs = search needs
@@ -53,7 +53,7 @@ same-length-3 : tie.Need-same-length-3
 same-length-3 c = search needs
 
 same-length-4 : tie.Need-same-length-4
-same-length-4 c = c .before .before .clear-u162 .kept .0 ∙ c .before .before .before .before .before .before .before .before .before .before .before .before .before .before .before .before .before .before .before .before .before .before .before .before .before .before .before .before .before .before .before .before .note-hints .kept .0
+same-length-4 c = c .before .before .clear-u162 .kept .0 ∙ c .before .before .before .before .before .before .before .before .before .before .before .before .before .before .before .before .before .before .before .before .before .before .before .before .before .before .before .before .before .before .before .before .note-for .kept .0
 
 returns : tie.Need-returns
 returns c = let a = c .before .before .before .before .before .before .before .before .before .before .before .before .before .before .all in (
@@ -62,7 +62,7 @@ returns c = let a = c .before .before .before .before .before .before .before .b
     a .ensures .1 .0 ∙ ap zeros (c .before .before .before .before .before .before .before .before .before .before .before .before .before .before .before .before .before .before .before .before .before .before .before .before .before .before .before .before .clear-u8 .kept .0),
     (
       a .ensures .1 .1 ∙ ap zeros (c .before .before .before .before .before .before .before .before .before .before .before .before .before .before .before .before .before .before .before .before .before .before .before .before .clear-u32 .kept .0),
-      (c .before .before .before .before .before .before .clear-u16 .ensures ∙ ap zeros (a .kept .1 .1 .0), c .before .before .clear-u162 .ensures ∙ ap zeros (c .before .before .before .before .before .before .before .before .before .before .before .before .before .before .before .before .before .before .before .before .before .before .before .before .before .before .before .before .before .before .before .before .note-hints .kept .0)),
+      (c .before .before .before .before .before .before .clear-u16 .ensures ∙ ap zeros (a .kept .1 .1 .0), c .before .before .clear-u162 .ensures ∙ ap zeros (c .before .before .before .before .before .before .before .before .before .before .before .before .before .before .before .before .before .before .before .before .before .before .before .before .before .before .before .before .before .before .before .before .note-for .kept .0)),
     ),
   ),
 )
@@ -75,7 +75,7 @@ checked-spec =
     words-requires
     slice-aggregate-given-back
     given-back-requires
-    note-hints-requires
+    note-for-requires
     clear-u8-requires
     clear-u32-requires
     slice-aggregate-all
