@@ -1,0 +1,3 @@
+pub mod Places
+pub mod Looking
+pub mod Treading
