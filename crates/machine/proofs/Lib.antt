@@ -1,3 +1,5 @@
 pub mod Places
 pub mod Looking
 pub mod Treading
+pub mod Counting
+pub mod Runs

@@ -10,6 +10,7 @@ use mathlib.Core.List.{List}
 use mathlib.Core.Logic.{_⊎_, inl, inr}
 use lib.ListN.{length, getD}
 use lib.Dec.{ltb}
+use borrow.Author.Tests.{ltb-true, ltb-false, eq-eqb, ne-eqb}
 use Rattle.tables.specs.declared.Effect.{Effect}
 use Rattle.flow.specs.declared.Flow.{Flow}
 use Rattle.flow.specs.declared.Flow.the-variants.{Next, Jump, Branch, Return}
@@ -19,7 +20,7 @@ use Rattle.rules.specs.declared.Look.{Look}
 use Rattle.rules.specs.Look.{Effects, larger, flowing, lookOf}
 use Rattle.rules.specs.Assigned.{Holds, Names}
 use Rattle.rules.proofs.Cases.{flowing-next, jump-legal, branch-legal, look-flow}
-use Rattle.rules.proofs.Held.{look-held, jump-held, branch-held}
+use Rattle.rules.proofs.Held.{look-held, end-held, return-held, jump-held, branch-held}
 use Rattle.machine.specs.Machine.{depthAfter, Onward}
 
 larger-within : (a b x : ℕ) → a ≤ x → b ≤ x → larger a b ≤ x
@@ -44,6 +45,12 @@ module _ (marks : List ℕ) (end offset next op out : ℕ) where
   way-on (Branch word) h = let t = branch-held marks end offset next op out word h in inr (t .0, (t .0, t .1, inl refl))
   way-on Return h = inl refl
 
+-- and at which depth
+pub exits-at : (marks : List ℕ) (end offset next op out : ℕ) (flow : Flow) → flow ≡ Return → Holds (flowing marks end offset next op out flow) → (op ≡ 0x88) ⊎ (op ≡ 0x8C)
+    → ((op ≡ 0x88) × (out ≡ 1)) ⊎ ((op ≡ 0x8C) × (out ≡ 0))
+exits-at marks end offset next op out flow e h (inl z) = inl (z, return-held marks end offset next op out (rw e at h) ∙ simp (eq-eqb op 0x88 z))
+exits-at marks end offset next op out flow e h (inr z) = inr (z, return-held marks end offset next op out (rw e at h) ∙ simp (ne-eqb op 0x88 (λ w. omega arith)))
+
 moves-one : (e f : Effect) → Known.Moves e ≡ Known.Moves f → e ≡ f
 moves-one e f z = cc
 
@@ -63,6 +70,12 @@ module _ (known : Effects) (marks body : List ℕ) (maximum offset depth op size
     pub names : (to : ℕ) → Onward marks (length body) (offset + size) (flowOf op operands) to → Names looked to (depthAfter e depth)
 
   module _ (inside : offset < length body) (is-op : op ≡ getD body offset 0) (is-size : size ≡ getD marks offset 0) where
+    -- its effect is known
+    pub acts-known : Holds looked → (e : Effect) × (known op operands ≡ Known.Moves e)
+    acts-known h =
+        let d = look-held known marks body maximum offset depth inside h in
+        (d .effect, rw (← is-op, ← is-size) at (d .is-known))
+
     pub obeys : (e : Effect) → known op operands ≡ Known.Moves e → Holds looked → Obeys e
     obeys e is h =
         let d = look-held known marks body maximum offset depth inside h in
@@ -83,3 +96,11 @@ module _ (known : Effects) (marks body : List ℕ) (maximum offset depth op size
               names = λ to w. subst (λ (k : Look). Names k to (depthAfter e depth)) (sym l)
               (onward-named marks (length body) offset (offset + size) op (depthAfter e depth) (flowOf op operands) to w);
             }
+
+-- at every place the depth is within the maximum
+pub depth-within : (known : Effects) (marks body : List ℕ) (maximum offset depth : ℕ) → Holds (lookOf known marks body maximum offset depth) → depth ≤ maximum
+depth-within known marks body maximum offset depth h = by (ltb offset (length body)) refl
+  where
+    by : (t : Bool) → ltb offset (length body) ≡ t → depth ≤ maximum
+    by true e = look-held known marks body maximum offset depth (ltb-true offset (length body) e) h .before
+    by false e = let z = end-held known marks body maximum offset depth (ltb-false offset (length body) e) h in omega arith
