@@ -3,3 +3,7 @@ pub mod Looking
 pub mod Treading
 pub mod Counting
 pub mod Runs
+pub mod Theorem
+pub mod Programs
+pub mod StackAnswers
+pub mod PoolAnswers

@@ -1,2 +1,3 @@
 pub mod Machine
 pub mod Safe
+pub mod Demand
