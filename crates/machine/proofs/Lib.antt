@@ -7,3 +7,5 @@ pub mod Theorem
 pub mod Programs
 pub mod StackAnswers
 pub mod PoolAnswers
+pub mod Accepted
+pub mod Rejected

@@ -36,7 +36,7 @@ made bodies maxima pool =
 abbrev pub roomFor : PoolProgram → Room
 roomFor q = roomOf (length (q .program .code)) (length (q .program .code) + 1) (2 * length (q .program .code) + 2) (2 * length (q .program .code) + 2)
 
--- LOAD_TEMP_STR and STORE of one: a buffer is borrowed, and given back
+-- STR_LOAD_VAR borrows a buffer, STR_STORE_VAR gives it back
 abbrev borrows : List ℕ
 borrows = 0xBC ∷ 0 ∷ 0 ∷ 0 ∷ 0 ∷ []
 
