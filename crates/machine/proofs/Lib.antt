@@ -1,3 +1,4 @@
+pub mod Stuck
 pub mod Places
 pub mod Looking
 pub mod Treading

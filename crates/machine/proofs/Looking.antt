@@ -94,7 +94,7 @@ module _ (known : Effects) (marks body : List ℕ) (maximum offset depth op size
               after = c′;
               flows = subst Holds l h;
               names = λ to w. subst (λ (k : Look). Names k to (depthAfter e depth)) (sym l)
-              (onward-named marks (length body) offset (offset + size) op (depthAfter e depth) (flowOf op operands) to w);
+                  (onward-named marks (length body) offset (offset + size) op (depthAfter e depth) (flowOf op operands) to w);
             }
 
 -- at every place the depth is within the maximum

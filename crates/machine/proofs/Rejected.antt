@@ -17,11 +17,16 @@ use Rattle.flow.specs.Walk.{walkBy, marksOf}
 use Rattle.codes.specs.First.{firstOf}
 use Rattle.codes.specs.Lookup.{placeOf, entryOf}
 use Rattle.program.specs.Program.{PoolProgram, bodyOf}
+use Rattle.rules.specs.declared.Violation.{Violation}
 use Rattle.effects.specs.Effects.{knownOf}
+use Rattle.stack.specs.declared.Verdict as of-stack
 use Rattle.callees.specs.Callees.{tempsBy, opensBy}
+use Rattle.pool.specs.declared.Verdict as of-pool
 use Rattle.machine.specs.Machine.{Frame, frame, opened, decodedAt, Acts, depthAfter, flowAt, Step, goes, Steps, begins, then, Run, live}
 use Rattle.machine.specs.Safe.{Open, top, declared, framesOf, Safe}
 use Rattle.machine.proofs.Programs.{empty-pop, too-deep, uneven, left-over, greedy, circle}
+use Rattle.machine.proofs.StackAnswers.{stacked, stack-answers}
+use Rattle.machine.proofs.PoolAnswers.{pooled, pool-answers}
 use Rattle.machine.proofs.Accepted.{acts}
 
 -- 5: POP takes 1 of a frame that holds nothing
@@ -122,20 +127,32 @@ pub recurs : Run circle (frame 0 0 0 0 ∷ frame 1 5 1 0 ∷ frame 0 5 1 0 ∷ [
 unfolding framesOf
 recurs = (circle-run, refl)
 
--- none of these configurations is safe
-pub record Shown (q : PoolProgram) : Type 0 where
+-- A rejected program, its answer, and a run of it to a configuration that is not safe
+pub record Shown (q : PoolProgram) (Answer : Type 0) : Type 0 where
+  pub answer : Answer
   pub configuration : List Frame
   pub run : Run q configuration
   pub unsafe : Safe q configuration → ⊥
 
-pub shown-5 : Shown empty-pop
-shown-5 = record { configuration = opened 0 ∷ []; run = underflows .0; unsafe = λ s. omega (arith, underflows .1 .1, s .enough (opened 0) top (underflows .1 .0)) }
+pub shown-5 : Shown empty-pop (stacked empty-pop (of-stack.Verdict.Violated 1 (Violation.Underflow 0 0x90 1 0)))
+shown-5 = record {
+  answer = stack-answers .1 .0;
+  configuration = opened 0 ∷ [];
+  run = underflows .0;
+  unsafe = λ s. omega (arith, underflows .1 .1, s .enough (opened 0) top (underflows .1 .0));
+}
 
-pub shown-6 : Shown too-deep
-shown-6 = record { configuration = opened 0 ∷ []; run = exceeds .0; unsafe = λ s. omega (arith, exceeds .1 .1, s .after (opened 0) top (exceeds .1 .0)) }
+pub shown-6 : Shown too-deep (stacked too-deep (of-stack.Verdict.Violated 1 (Violation.ExceedsDeclaredMax 0 1 0)))
+shown-6 = record {
+  answer = stack-answers .1 .1 .0;
+  configuration = opened 0 ∷ [];
+  run = exceeds .0;
+  unsafe = λ s. omega (arith, exceeds .1 .1, s .after (opened 0) top (exceeds .1 .0));
+}
 
-pub shown-8 : Shown uneven
+pub shown-8 : Shown uneven (stacked uneven (of-stack.Verdict.Violated 1 (Violation.MergeConflict 5 0 1)))
 shown-8 = record {
+  answer = stack-answers .1 .1 .1 .0;
   configuration = frame 0 5 1 0 ∷ [];
   run = merges .1 .0;
   unsafe = λ s.
@@ -143,11 +160,26 @@ shown-8 = record {
       ⊎-elim (λ r. omega (arith, r .0, m .2)) (λ v. omega (arith, v .1, m .3)) (s .returns (frame 0 5 1 0) top (m .0) (m .1));
 }
 
-pub shown-9 : Shown left-over
-shown-9 = record { configuration = frame 0 1 1 0 ∷ []; run = leaves-over .0; unsafe = λ s. let z : _≡_ {A = ℕ} 1 0 = s .ends (frame 0 1 1 0) top (leaves-over .1) in omega arith }
+pub shown-9 : Shown left-over (stacked left-over (of-stack.Verdict.Violated 1 (Violation.UnbalancedReturn 1 0 1)))
+shown-9 = record {
+  answer = stack-answers .1 .1 .1 .1 .0;
+  configuration = frame 0 1 1 0 ∷ [];
+  run = leaves-over .0;
+  unsafe = λ s. let z : _≡_ {A = ℕ} 1 0 = s .ends (frame 0 1 1 0) top (leaves-over .1) in omega arith;
+}
 
-pub shown-20 : Shown greedy
-shown-20 = record { configuration = frame 1 5 1 1 ∷ frame 0 10 2 1 ∷ []; run = overruns .0; unsafe = λ s. omega (arith, overruns .1, s .buffers) }
+pub shown-20 : Shown greedy (pooled greedy (of-pool.Verdict.ExceedsDeclaredPool 1 0 2 1))
+shown-20 = record {
+  answer = pool-answers .1 .1 .1 .1 .1 .0;
+  configuration = frame 1 5 1 1 ∷ frame 0 10 2 1 ∷ [];
+  run = overruns .0;
+  unsafe = λ s. omega (arith, overruns .1, s .buffers);
+}
 
-pub shown-21 : Shown circle
-shown-21 = record { configuration = frame 0 0 0 0 ∷ frame 1 5 1 0 ∷ frame 0 5 1 0 ∷ []; run = recurs .0; unsafe = λ s. omega (arith, recurs .1, s .once 0) }
+pub shown-21 : Shown circle (pooled circle (of-pool.Verdict.RecursiveCallGraph 1))
+shown-21 = record {
+  answer = pool-answers .1 .1 .1 .1 .1 .1;
+  configuration = frame 0 0 0 0 ∷ frame 1 5 1 0 ∷ frame 0 5 1 0 ∷ [];
+  run = recurs .0;
+  unsafe = λ s. omega (arith, recurs .1, s .once 0);
+}

@@ -6,6 +6,7 @@
 --     Acts        an instruction decodes at a frame's offset, and its builtin or callee is known
 --     Onward      where control can go on in the body
 --     Step        one step of the top frame
+--     Stuck       where there is none
 --     Run         no or more steps, from an entry's frame
 --     live        the buffers of the open frames
 use Prim.Native.Nat.{ℕ, zero, suc, _+_, _-_}
@@ -16,10 +17,11 @@ use lib.ListN.{length}
 use Rattle.tables.specs.declared.Effect.{Effect}
 use Rattle.tables.specs.Set.{sizeOf, moveOf}
 use Rattle.flow.specs.declared.Step as decoding
-use Rattle.flow.specs.declared.Step.the-variants.{End, Instruction}
+use Rattle.flow.specs.declared.Step.the-variants.{End, Unknown, Truncated, Instruction}
 use Rattle.flow.specs.declared.Flow.{Flow}
 use Rattle.flow.specs.declared.Flow.the-variants.{Next, Jump, Branch, Return}
-use Rattle.flow.specs.declared.Target.the-variants.{Legal}
+use Rattle.flow.specs.declared.Spot.{Spot}
+use Rattle.flow.specs.declared.Target.the-variants.{Legal, Illegal}
 use Rattle.flow.specs.Decode.{stepBy, operandsAt, flowOf, moved, targetOf}
 use Rattle.flow.specs.Walk.{marksOf}
 use Rattle.program.specs.Program.{PoolProgram, bodyOf}
@@ -93,6 +95,16 @@ pub data Step (q : PoolProgram) : List Frame → List Frame → Type 0 where
       → Step q (fr ∷ below) (opening (opensOf q (x .opcode) (operandsIn q fr (x .size))) (gone q fr x to ∷ below))
   returns : {fr : Frame} {below : List Frame} (x : Acts q fr) → flowAt q fr x ≡ Return → Step q (fr ∷ below) below
   ends : {fr : Frame} {below : List Frame} → decodedAt q fr ≡ End → Step q (fr ∷ below) below
+
+-- "It has no step only where nothing decodes, a builtin or callee is unknown, or a target is illegal" (proofs/Stuck.antt: there it has none, and
+-- everywhere else it has one)
+pub data Stuck (q : PoolProgram) (fr : Frame) : Type 0 where
+  unassigned : (byte : ℕ) → decodedAt q fr ≡ Unknown byte → Stuck q fr
+  cut : (opcode : ℕ) → decodedAt q fr ≡ Truncated opcode → Stuck q fr
+  no-builtin : (opcode size id : ℕ) → decodedAt q fr ≡ Instruction opcode size → knownOf moveOf (q .program) opcode (operandsIn q fr size) ≡ Known.UnknownBuiltin id → Stuck q fr
+  no-callee : (opcode size id : ℕ) → decodedAt q fr ≡ Instruction opcode size → knownOf moveOf (q .program) opcode (operandsIn q fr size) ≡ Known.UnknownCallee id → Stuck q fr
+  no-target : (x : Acts q fr) (word : ℕ) (spot : Spot) → (flowAt q fr x ≡ Jump word) ⊎ (flowAt q fr x ≡ Branch word)
+      → targetOf (marksOf sizeOf (bodyIn q fr)) (length (bodyIn q fr)) (moved (fr .offset + x .size) word) ≡ Illegal spot → Stuck q fr
 
 -- from some frames on
 pub data Steps (q : PoolProgram) (first : List Frame) : List Frame → Type 0 where
