@@ -2,6 +2,7 @@
 // entries and of the differences found.
 mod bodies;
 mod lists;
+mod pools;
 mod programs;
 mod rows;
 mod tally;
@@ -46,5 +47,10 @@ fn main() {
     report(
         b"programs.bin",
         programs::replay(list, tally::part(&buffer, 0, n)),
+    );
+    let n = load(b"pools.bin", &mut buffer);
+    report(
+        b"pools.bin",
+        pools::replay(list, tally::part(&buffer, 0, n)),
     );
 }

@@ -14,13 +14,13 @@ pub struct Directory {
     pub lengths: [usize; 16],
 }
 
-fn wide8(x: u8) -> usize
+pub fn wide8(x: u8) -> usize
     ensures { λ r. ⌜ r < 256 ⌝ }
 {
     x as usize
 }
 
-fn wide16(x: u16) -> usize
+pub fn wide16(x: u16) -> usize
     ensures { λ r. ⌜ r < 65536 ⌝ }
 {
     x as usize
@@ -33,7 +33,7 @@ fn wide64(x: u16) -> u64
 }
 
 // Ten bytes a row.
-fn rows_at(data: &[u8], at: usize) -> Directory {
+pub fn rows_at(data: &[u8], at: usize) -> Directory {
     let mut ids = [0u16; 16];
     let mut parameters = [0u16; 16];
     let mut maxima = [0u16; 16];
@@ -66,7 +66,7 @@ fn number(data: &[u8], at: usize, i: usize) -> u64 {
     low + high * 65536
 }
 
-fn same_fields(f: Fields, data: &[u8], at: usize) -> bool {
+pub fn same_fields(f: Fields, data: &[u8], at: usize) -> bool {
     if f.number as u64 != number(data, at, 0) {
         return false;
     }
@@ -85,14 +85,14 @@ fn same_fields(f: Fields, data: &[u8], at: usize) -> bool {
     f.c as u64 == number(data, at, 5)
 }
 
-fn front(column: &[u16], n: usize) -> &[u16] {
+pub fn front(column: &[u16], n: usize) -> &[u16] {
     if n <= column.len() {
         return &column[0..n];
     }
     column
 }
 
-fn front_sizes(column: &[usize], n: usize) -> &[usize] {
+pub fn front_sizes(column: &[usize], n: usize) -> &[usize] {
     if n <= column.len() {
         return &column[0..n];
     }
