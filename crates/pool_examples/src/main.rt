@@ -1,6 +1,7 @@
 // 01's examples of the pool check, run: a line for each with number, function, offset, a, b, c. The scratch holds junk before each call; what is not
 // zero after it is counted at the line's end.
 use answers::Fields;
+ghost use Prim.Native.Nat.{_≤_};
 
 fn number(n: u32) {
     io::write_all(1, b" ");
@@ -21,38 +22,48 @@ fn line(name: &[u8], f: Fields, left: usize) {
     io::write_all(1, b"\n");
 }
 
+// One more, where it is found.
+fn counted(count: usize, found: bool) -> usize
+    ensures { λ r. ⌜ r ≤ 1000000 ⌝ }
+{
+    if 1000000 <= count {
+        return 1000000;
+    }
+    if found { count + 1 } else { count }
+}
+
 // How many cells are not zero.
-fn not_zero8(column: &[u8]) -> usize {
+fn not_zero8(column: &[u8]) -> usize
+    ensures { λ r. ⌜ r ≤ 1000000 ⌝ }
+{
     let mut count: usize = 0;
     let mut i: usize = 0;
     while i < column.len() {
-        if column[i] != 0 && count < 1000000 {
-            count += 1;
-        }
+        count = counted(count, column[i] != 0);
         i += 1;
     }
     count
 }
 
-fn not_zero16(column: &[u16]) -> usize {
+fn not_zero16(column: &[u16]) -> usize
+    ensures { λ r. ⌜ r ≤ 1000000 ⌝ }
+{
     let mut count: usize = 0;
     let mut i: usize = 0;
     while i < column.len() {
-        if column[i] != 0 && count < 1000000 {
-            count += 1;
-        }
+        count = counted(count, column[i] != 0);
         i += 1;
     }
     count
 }
 
-fn not_zero32(column: &[u32]) -> usize {
+fn not_zero32(column: &[u32]) -> usize
+    ensures { λ r. ⌜ r ≤ 1000000 ⌝ }
+{
     let mut count: usize = 0;
     let mut i: usize = 0;
     while i < column.len() {
-        if column[i] != 0 && count < 1000000 {
-            count += 1;
-        }
+        count = counted(count, column[i] != 0);
         i += 1;
     }
     count
