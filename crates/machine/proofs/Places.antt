@@ -21,7 +21,7 @@ use Rattle.flow.specs.Decode.{stepBy, wordAt, flowOf, moved, targetOf}
 use Rattle.flow.specs.Walk.{walkBy, endOf, isStart, marksOf}
 use Rattle.flow.specs.Laws.{Stands, stands, step-end}
 use Rattle.flow.specs.Starts.{marked, Begins, begins}
-use Rattle.flow.specs.Next.{Standing, first-stands, next-stands, target-stands}
+use Rattle.flow.specs.Next.{Standing, first-stands, next-stands, target-stands, marks-are}
 use Rattle.machine.specs.Machine.{Onward}
 
 module _ (sizes : ℕ → ℕ) (body : List ℕ) where
@@ -33,10 +33,9 @@ module _ (sizes : ℕ → ℕ) (body : List ℕ) where
     pub inside : t < length body
 
   mark-is : (t : ℕ) → t < length body → isStart (walkBy sizes body 0) t ≡ true → getD (marksOf sizes body) t 0 ≡ sizes (getD body t 0)
-  unfolding marksOf
   mark-is t h s =
       let l = length-zeros (zeros (length body)) (length body) refl in
-      marked sizes body 0 t (zeros (length body)) (omega arith) ∙ ap (λ (b : Bool). cond b (sizes (getD body t 0)) (getD (zeros (length body)) t 0)) s
+      ap (λ (marks : List ℕ). getD marks t 0) (marks-are sizes body) ∙ marked sizes body 0 t (zeros (length body)) (omega arith) ∙ ap (λ (b : Bool). cond b (sizes (getD body t 0)) (getD (zeros (length body)) t 0)) s
 
   pub place-at : (t op size : ℕ) → Standing sizes body t → stepBy sizes body t ≡ Instruction op size → Place t op size
   place-at t op size at e = by (stands sizes body t op size e) at
@@ -53,10 +52,9 @@ module _ (sizes : ℕ → ℕ) (body : List ℕ) where
   decodes-at t (inr w) = inr (step-end sizes body t (omega arith))
 
   target-at : (spot : Spot) (t : ℕ) → targetOf (marksOf sizes body) (length body) spot ≡ Legal t → Standing sizes body t
-  unfolding marksOf
   target-at spot t e =
       let l = length-zeros (zeros (length body)) (length body) refl in
-      target-stands sizes body (zeros (length body)) (omega arith) (any-zero (zeros (length body)) (length body) refl) spot t e
+      target-stands sizes body (zeros (length body)) (omega arith) (any-zero (zeros (length body)) (length body) refl) spot t (rw (marks-are sizes body) at e)
 
   module _ (whole : endOf (walkBy sizes body 0) ≡ Decoded.Whole) (t op size : ℕ) (p : Place t op size) where
     next-at : Standing sizes body (t + size)
