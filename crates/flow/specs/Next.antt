@@ -16,12 +16,12 @@ use Rattle.flow.specs.declared.starts.Decoded.{Decoded}
 use Rattle.flow.specs.declared.starts.Decoded.the-variants as D
 use Rattle.flow.specs.declared.Step.{Step}
 use Rattle.flow.specs.declared.Step.the-variants.{End, Unknown, Truncated, Instruction}
-use Rattle.flow.specs.declared.Flow.the-variants.{Next}
+use Rattle.flow.specs.declared.Flow.the-variants.{Next, Jump, Branch, Return}
 use Rattle.flow.specs.declared.Spot.{Spot}
 use Rattle.flow.specs.declared.Spot.the-variants.{At, Before}
 use Rattle.flow.specs.declared.Target.{Target}
 use Rattle.flow.specs.declared.Target.the-variants.{Legal, Illegal}
-use Rattle.flow.specs.Decode.{stepBy, flowOf, targetOf}
+use Rattle.flow.specs.Decode.{stepBy, wordAt, flowOf, targetOf}
 use Rattle.cells.specs.Zeros.{zeros, length-zeros, any-zero}
 use Rattle.flow.specs.Walk.{Walk, stops, instr, onStep, walkIn, walkBy, endOf, markAll, marksOf, isStart}
 use Rattle.flow.specs.Laws.{Stands, stands, end-only}
@@ -154,3 +154,19 @@ pub body-fits : (sizes : ℕ → ℕ) (body : List ℕ) (at : ℕ) → at < leng
 body-fits sizes body at h =
     let l = length-zeros (zeros (length body)) (length body) refl in
     rw (marks-are sizes body) (marks-fit sizes body (zeros (length body)) (omega arith) (any-zero (zeros (length body)) (length body) refl) at h)
+
+-- only RET and RET_VOID leave
+pub return-is : (op : ℕ) (operands : List ℕ) → flowOf op operands ≡ Return → (op ≡ 0x88) ⊎ (op ≡ 0x8C)
+unfolding flowOf
+return-is op operands e =
+    by (wordAt operands 0) (wordAt operands 5) (eqb op 0x7C) (eqb op 0x80) (eqb op 0xF4) (eqb op 0xF5) (eqb op 0x88) (eqb op 0x8C) refl refl e
+  where
+    by : (near far : ℕ) (a b c d r v : Bool) → eqb op 0x88 ≡ r → eqb op 0x8C ≡ v
+        → cond a (Jump near) (cond b (Branch near) (cond c (Branch far) (cond d (Branch far) (cond r Return (cond v Return Next))))) ≡ Return → (op ≡ 0x88) ⊎ (op ≡ 0x8C)
+    by near far true b c d r v x y e = absurd (let z : _≡_ {A = ℕ} 0 1 = cc in omega arith)
+    by near far false true c d r v x y e = absurd (let z : _≡_ {A = ℕ} 0 1 = cc in omega arith)
+    by near far false false true d r v x y e = absurd (let z : _≡_ {A = ℕ} 0 1 = cc in omega arith)
+    by near far false false false true r v x y e = absurd (let z : _≡_ {A = ℕ} 0 1 = cc in omega arith)
+    by near far false false false false true v x y e = inl (eqb-true op 0x88 x)
+    by near far false false false false false true x y e = inr (eqb-true op 0x8C y)
+    by near far false false false false false false x y e = absurd (let z : _≡_ {A = ℕ} 0 1 = cc in omega arith)

@@ -8,8 +8,6 @@ use mathlib.Core.Bool.{Bool, true, false, cond}
 use mathlib.Core.List.{List}
 use mathlib.Core.Logic.{_⊎_, inl, inr, ⊎-elim}
 use lib.ListN.{length, getD}
-use lib.Dec.{eqb}
-use borrow.Author.Tests.{eqb-true}
 use Rattle.cells.specs.Zeros.{zeros, length-zeros, any-zero}
 use Rattle.flow.specs.declared.starts.Decoded.{Decoded}
 use Rattle.flow.specs.declared.Step.the-variants.{End, Instruction}
@@ -17,7 +15,7 @@ use Rattle.flow.specs.declared.Flow.{Flow}
 use Rattle.flow.specs.declared.Flow.the-variants.{Next, Jump, Branch, Return}
 use Rattle.flow.specs.declared.Spot.{Spot}
 use Rattle.flow.specs.declared.Target.the-variants.{Legal}
-use Rattle.flow.specs.Decode.{stepBy, wordAt, flowOf, moved, targetOf}
+use Rattle.flow.specs.Decode.{stepBy, moved, targetOf}
 use Rattle.flow.specs.Walk.{walkBy, endOf, isStart, marksOf}
 use Rattle.flow.specs.Laws.{Stands, stands, step-end}
 use Rattle.flow.specs.Starts.{marked, Begins, begins}
@@ -69,19 +67,3 @@ module _ (sizes : ℕ → ℕ) (body : List ℕ) where
     onward-at (Branch word) to w =
         ⊎-elim (λ e. subst (Standing sizes body) e (target-at (moved (t + size) word) (w .0) (w .1))) (λ e. subst (Standing sizes body) e next-at) (w .2)
     onward-at Return to w = absurd w
-
--- only RET and RET_VOID leave
-pub return-is : (op : ℕ) (operands : List ℕ) → flowOf op operands ≡ Return → (op ≡ 0x88) ⊎ (op ≡ 0x8C)
-unfolding flowOf
-return-is op operands e =
-    by (wordAt operands 0) (wordAt operands 5) (eqb op 0x7C) (eqb op 0x80) (eqb op 0xF4) (eqb op 0xF5) (eqb op 0x88) (eqb op 0x8C) refl refl e
-  where
-    by : (near far : ℕ) (a b c d r v : Bool) → eqb op 0x88 ≡ r → eqb op 0x8C ≡ v
-        → cond a (Jump near) (cond b (Branch near) (cond c (Branch far) (cond d (Branch far) (cond r Return (cond v Return Next))))) ≡ Return → (op ≡ 0x88) ⊎ (op ≡ 0x8C)
-    by near far true b c d r v x y e = absurd (let z : _≡_ {A = ℕ} 0 1 = cc in omega arith)
-    by near far false true c d r v x y e = absurd (let z : _≡_ {A = ℕ} 0 1 = cc in omega arith)
-    by near far false false true d r v x y e = absurd (let z : _≡_ {A = ℕ} 0 1 = cc in omega arith)
-    by near far false false false true r v x y e = absurd (let z : _≡_ {A = ℕ} 0 1 = cc in omega arith)
-    by near far false false false false true v x y e = inl (eqb-true op 0x88 x)
-    by near far false false false false false true x y e = inr (eqb-true op 0x8C y)
-    by near far false false false false false false x y e = absurd (let z : _≡_ {A = ℕ} 0 1 = cc in omega arith)

@@ -15,7 +15,7 @@ use Rattle.flow.specs.declared.Flow.the-variants.{Return}
 use Rattle.flow.specs.Walk.{marksOf}
 use Rattle.flow.specs.Laws.{end-only}
 use Rattle.flow.specs.Starts.{Begins}
-use Rattle.flow.specs.Next.{Standing, first-stands}
+use Rattle.flow.specs.Next.{Standing, first-stands, return-is}
 use Rattle.program.specs.declared.Room.{Room}
 use Rattle.program.specs.Program.{PoolProgram, bodyOf}
 use Rattle.rules.specs.declared.Look.{Look}
@@ -34,7 +34,7 @@ use Rattle.pool.proofs.Opening.{reached-inside}
 use Rattle.pool.proofs.Sheets.{reached-tame, reached-callee, bodies-dominated}
 use Rattle.machine.specs.Machine.{Frame, opened, bodyIn, operandsIn, decodedAt, Acts, depthAfter, flowAt, GoesTo, gone, opening, Step, goes, returns, ends, Steps, begins, then, Run, live}
 use Rattle.machine.specs.Safe.{Open, top, under, declared, Safe}
-use Rattle.machine.proofs.Places.{Place, place-at, decodes-at, onward-at, return-is}
+use Rattle.machine.proofs.Places.{Place, place-at, decodes-at, onward-at}
 use Rattle.machine.proofs.Looking.{Obeys, obeys, acts-known, way-on, exits-at, depth-within}
 use Rattle.machine.proofs.Treading.{Treads, treads}
 use Rattle.machine.proofs.Counting.{Once, once-frames}
