@@ -257,6 +257,28 @@ impl<'a> Writer<'a> {
         }
     }
 
+    /// Puts one of these instructions in the place of others with the same effect, of one in `every`.
+    pub fn exchange(&mut self, wanted: &[u8], every: usize) {
+        for at in 0..self.items.len() {
+            let effect = self.effects[self.items[at].bytes[0] as usize];
+            let same: Vec<u8> = wanted.iter().copied().filter(|&op| self.effects[op as usize] == effect).collect();
+            if effect.is_some() && !same.is_empty() && self.source.random.below(every) == 0 {
+                let op = self.source.random.one_of(&same);
+                self.items[at].bytes = self.source.instruction(op);
+            }
+        }
+    }
+
+    /// Puts an instruction that moves nothing before others, before one in `every`.
+    pub fn scatter(&mut self, op: u8, every: usize) {
+        for at in (0..self.items.len()).rev() {
+            if self.source.random.below(every) == 0 {
+                let bytes = self.source.instruction(op);
+                self.insert(at, bytes);
+            }
+        }
+    }
+
     fn any_plain(&mut self) -> Vec<u8> {
         loop {
             let op = self.source.random.byte();

@@ -38,6 +38,7 @@ mod export;
 mod file;
 mod file_format;
 mod files;
+mod machine;
 mod observe;
 mod pipe;
 mod pool;
@@ -52,6 +53,7 @@ mod record;
 mod record_pool;
 mod record_stack;
 mod refused;
+mod runs;
 mod stack;
 mod tables;
 
@@ -77,6 +79,8 @@ const USAGE: &str = "usage: differential COMMAND
   pool SEED COUNT -- DRIVER..       the pool check of document 000 and of a driver, on random programs and on every pair of
                                     instructions
   file SEED COUNT -- DRIVER..       the bench file's reader and writer of this crate and of a driver, on random files
+  machine SEED RUNS                 runs of 01's depth machine over random programs that document 000's checks accept, and
+                                    over such that they do not
   differences                       what document 000 says on the inputs of docs/DIFFERENCES.md
   bench [file | pool]               timings, all, or of the bench file or the pool check (built with --features bench)
 DIR is crates/replay/data where it is not given.";
@@ -124,6 +128,7 @@ fn run(words: &[&str]) -> Report {
         ["file", seed, count, "--", driver @ ..] if !driver.is_empty() => {
             file::run(number(seed)?, number(count)?, driver)
         }
+        ["machine", seed, count] => runs::run(number(seed)?, number(count)?),
         ["differences"] => differences::run(),
         #[cfg(feature = "bench")]
         ["bench"] => bench::run(),

@@ -84,7 +84,7 @@ pub struct Made {
 pub struct Programs {
     pub source: Bodies,
     pub list: Vec<Row>,
-    effects: Vec<Option<Fixed>>,
+    pub effects: Vec<Option<Fixed>>,
     longest: usize,
 }
 

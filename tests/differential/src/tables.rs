@@ -11,8 +11,9 @@ use crate::verify::StackImbalance;
 use crate::Report;
 use std::path::Path;
 
+/// What decides an instruction's effect.
 #[derive(Clone, Copy, Debug, PartialEq, Eq)]
-enum Kind {
+pub enum Kind {
     Fixed { takes: u16, leaves: u16 },
     Builtin,
     Call,
@@ -86,7 +87,7 @@ fn effect(instruction: &[u8], callee: (&[u8], u16)) -> Result<(u16, u16), String
     Ok((takes, leaves))
 }
 
-fn kind(op: u8, list: &[Row]) -> Result<Kind, String> {
+pub fn kind(op: u8, list: &[Row]) -> Result<Kind, String> {
     let nothing: (&[u8], u16) = (&[], 0);
     match observe::stack(&[(&instruction(op, u16::MAX), 0)]) {
         Some(StackImbalance::UnknownBuiltin { builtin_id: u16::MAX, .. }) => {
