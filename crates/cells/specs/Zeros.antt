@@ -1,6 +1,6 @@
 -- What a cleared column holds, and the laws of it: its length, its cells, its parts, and a front that is lent out and comes back as zeros.
 -- Assumes nothing.
-use Rattle.std.specs.Prelude.{ℕ, zero, suc, ◌+◌, ◌≤◌, ◌<◌, ◌≡◌, refl, List, [], ◌∷◌, ◌++◌, get_or, take, drop, replicate}
+use Rattle.std.specs.Prelude.{ℕ, zero, suc, ◌≤◌, ◌≡◌, refl, List, ◌∷◌, ◌++◌, get_or, take, drop, replicate}
 use Rattle.std.proofs.Common.{sym, ap₂, ◌∙◌, append-nil, arith, length-take-le, take_at, drop_at}
 use Rattle.std.proofs.Math.Path.{ap}
 use Rattle.std.proofs.Math.ListN.{length, length-replicate}

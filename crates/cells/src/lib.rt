@@ -1,4 +1,6 @@
 // Lent columns, read and written at any place: past the end a read gives 0 and a write changes nothing, so no caller has anything to show.
+#![tactic(auto)]
+
 ghost use Rattle.std.specs.Prelude.{◌≡◌, length, get_or, set, take, drop};
 ghost use Rattle.cells.specs.Zeros.{zeros};
 

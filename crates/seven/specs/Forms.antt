@@ -1,7 +1,7 @@
 -- The form of a number by its size, and the number that a form stands for, byte by byte. The laws of Laws.antt are made of these.
 -- Assumes nothing.
 use Rattle.std.specs.Prelude.{ℕ, ◌+◌, ◌-◌, ◌*◌, ◌/◌, ◌%◌, ◌<◌, ◌≤◌, ◌≡◌, refl, Bool, true, false, List, [], ◌∷◌, length, get_or, ltb}
-use Rattle.std.proofs.Common.{sym, ◌∙◌, ap, arith, le-ltb, lt-ltb, le-leb, ne_eqb, ltb-true, ltb-false}
+use Rattle.std.proofs.Common.{◌∙◌, arith, le-ltb, lt-ltb, le-leb, ne_eqb, ltb-true, ltb-false}
 use Rattle.std.proofs.lemmas.Bool.{lt-leb}
 use Rattle.seven.specs.declared.Number.TheVariants.{Value}
 use Rattle.seven.specs.Seven.{number_at, first, second, third}

@@ -1,9 +1,8 @@
 -- What a crate above may use of the numbers: what is written reads back as the same number at the place after it; what was read
 -- writes back as the same bytes; each number has exactly one form.
 -- Assumes nothing.
-use Rattle.std.specs.Prelude.{ℕ, zero, suc, ◌+◌, ◌-◌, ◌*◌, ◌/◌, ◌%◌, ◌<◌, ◌≤◌, ◌≡◌, refl, Bool, true, false, List, [], ◌∷◌, ◌++◌, length, get_or, take, drop, ltb, leb, eqb}
-use Rattle.std.proofs.Common.{sym, ◌∙◌, ap, ⊎_elim, append_assoc, arith, add-one, length-append, length-drop, take-append-drop, get_or-append-add, drop-cons, length-take-le, take_at, drop_at, le-leb, leb-true, leb-false, ltb-true, ltb-false}
-use Rattle.std.proofs.Math.Numerals.{add-two, add-three}
+use Rattle.std.specs.Prelude.{ℕ, zero, suc, ◌+◌, ◌-◌, ◌*◌, ◌/◌, ◌%◌, ◌<◌, ◌≤◌, ◌≡◌, refl, false, List, [], ◌∷◌, ◌++◌, length, get_or, take, drop, ltb, leb, eqb}
+use Rattle.std.proofs.Common.{sym, ◌∙◌, ap, arith, add-one, length-append, take-append-drop, get_or-append-add, drop-cons, length-take-le, take_at, le-leb, leb-true, leb-false, ltb-true, ltb-false}
 use Rattle.std.proofs.Math.Seq.{get_or-append_seam}
 use Rattle.std.proofs.lemmas.Bool.{eqb-false}
 use Rattle.seven.specs.declared.Number.{Number}

@@ -1,5 +1,7 @@
 // Numbers of a bench file (01, "Bench file"): groups of seven bits, low group first, the top bit set on all but the last, in the
 // shortest form, at most 65,535.
+#![tactic(auto)]
+
 ghost use Rattle.std.specs.Prelude.{◌≡◌, ◌+◌, ◌-◌, ◌<◌, ◌≤◌, length};
 ghost use Rattle.seven.specs.Seven.{number_at};
 ghost use Rattle.seven.specs.Write.{written};

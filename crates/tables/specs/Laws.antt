@@ -1,14 +1,13 @@
 -- The laws of the instruction set that the crates above use, in the place of its rows. Each is one test over the rows, which antt computes.
 -- Assumes nothing.
-use Rattle.std.specs.Prelude.{◌≡◌, refl, Bool, true, false, cond, not, ◌&&◌, ◌||◌, List, [], ◌∷◌, ℕ, zero, suc, ◌+◌, ◌*◌, ◌/◌, ◌%◌, ◌≤◌, ◌<◌, T, eqb, leb, ltb}
-use Rattle.std.proofs.Common.{◌∙◌, ap, subst, sym, arith, leb→le, eqb→eq, eqb-true, ltb-true}
-use Rattle.tables.specs.declared.Effect.{Effect}
+use Rattle.std.specs.Prelude.{◌≡◌, refl, Bool, true, false, cond, not, ◌&&◌, ◌||◌, List, [], ◌∷◌, ℕ, zero, suc, ◌+◌, ◌≤◌, T, eqb, leb}
+use Rattle.std.proofs.Common.{ap, subst, sym, arith, leb→le, eqb→eq, eqb-true}
 use Rattle.tables.specs.declared.Move.{Move}
 use Rattle.tables.specs.declared.Move.TheVariants.{Fixed, Builtin, Call, Method}
 use Rattle.tables.specs.declared.TempEffect.{TempEffect}
 use Rattle.tables.specs.declared.TempEffect.TheVariants.{Keeps, Borrows, GivesBack}
-use Rattle.tables.specs.Set.{Row, Found, unassigned, assigned, instruction_set, opcode_of, find, is_assigned, assigned_of, size_found, move_found, temp_found, effect, no_movement, size_of, move_of, temp_of, takes_move, leaves_move}
-use Rattle.tables.specs.Packed.{turns, sort_move, sort_found, sort_of, word_found, word_of, plain_of, temp_code, size_table, word_table, size_in, effect_in, move_by, move_in, temp_by, temp_in, plain_in}
+use Rattle.tables.specs.Set.{Row, Found, unassigned, assigned, instruction_set, opcode_of, find, is_assigned, assigned_of, size_found, move_found, temp_found, effect, size_of, move_of, temp_of, takes_move, leaves_move}
+use Rattle.tables.specs.Packed.{turns, sort_found, sort_of, plain_of, temp_code}
 
 pub and_left : (a b : Bool) → T (a && b) → T a
 and_left true b t = tt

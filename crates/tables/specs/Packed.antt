@@ -1,13 +1,13 @@
 -- How the instruction set is stored: a table of sizes, and one of words that hold what an opcode takes (two bits), leaves (two bits), its
 -- temp effect (two bits) and its sort. What is read out of any lent table is defined here; specs/Laws.antt says that out of these two it is 01's.
 -- Assumes nothing.
-use Rattle.std.specs.Prelude.{ℕ, ◌+◌, ◌*◌, ◌/◌, ◌%◌, Bool, true, false, cond, not, ◌&&◌, ◌||◌, List, eqb, get_or}
+use Rattle.std.specs.Prelude.{ℕ, ◌+◌, ◌*◌, ◌/◌, ◌%◌, Bool, cond, ◌||◌, List, eqb, get_or}
 use Rattle.tables.specs.declared.Effect.{Effect}
 use Rattle.tables.specs.declared.Move.{Move}
 use Rattle.tables.specs.declared.Move.TheVariants.{Fixed, Builtin, Call, Method}
 use Rattle.tables.specs.declared.TempEffect.{TempEffect}
 use Rattle.tables.specs.declared.TempEffect.TheVariants.{Keeps, Borrows, GivesBack}
-use Rattle.tables.specs.Set.{effect, Row, row, Found, unassigned, assigned, find, instruction_set, move_found, temp_found, takes_move, leaves_move, size_of}
+use Rattle.tables.specs.Set.{effect, row, Found, unassigned, assigned, find, instruction_set, move_found, temp_found, takes_move, leaves_move, size_of}
 use Rattle.tables.specs.Values.{values}
 
 -- the branching and leaving instructions: JMP, JMP_IF_NOT, CMP_BR, RET and RET_VOID

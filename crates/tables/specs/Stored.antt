@@ -1,6 +1,6 @@
 -- What is read out of the two stored tables is 01's, at every number: below 256 the entry is the opcode's, and past the end both sides are 0.
 -- Assumes nothing.
-use Rattle.std.specs.Prelude.{◌≡◌, refl, Bool, true, false, cond, not, ◌&&◌, ◌||◌, List, ℕ, suc, ◌+◌, ◌*◌, ◌/◌, ◌%◌, ◌≤◌, ◌<◌, T, eqb, ltb, length, get_or}
+use Rattle.std.specs.Prelude.{◌≡◌, refl, Bool, true, false, cond, not, ◌&&◌, ◌||◌, List, ℕ, suc, ◌/◌, ◌%◌, ◌≤◌, ◌<◌, T, eqb, ltb, get_or}
 use Rattle.std.proofs.Common.{◌∙◌, ap, sym, arith, leb→le, eqb→eq, eqb-true}
 use Rattle.std.proofs.Math.Decide.{dec_lt}
 use Rattle.std.proofs.Math.ListN.{get_or-eq_default}
@@ -9,10 +9,10 @@ use Rattle.tables.specs.declared.Move.{Move}
 use Rattle.tables.specs.declared.Move.TheVariants.{Fixed, Builtin, Call, Method}
 use Rattle.tables.specs.declared.TempEffect.{TempEffect}
 use Rattle.tables.specs.declared.TempEffect.TheVariants.{Keeps, Borrows, GivesBack}
-use Rattle.tables.specs.Set.{Row, row, Found, unassigned, assigned, instruction_set, find, is_assigned, size_found, move_found, temp_found, effect, size_of, move_of, temp_of, takes_move, leaves_move}
+use Rattle.tables.specs.Set.{row, Found, unassigned, assigned, instruction_set, find, is_assigned, size_found, move_found, temp_found, effect, size_of, move_of, temp_of, takes_move, leaves_move}
 use Rattle.tables.specs.Values.{values, entry, length_values}
 use Rattle.tables.specs.Packed.{turns, sort_move, sort_found, sort_of, word_found, word_of, plain_of, temp_code, size_table, word_table, size_in, effect_in, move_by, move_in, temp_by, temp_in, plain_in}
-use Rattle.tables.specs.Laws.{found, and_left, and_right, Plain, plain}
+use Rattle.tables.specs.Laws.{found, and_left, and_right, plain}
 
 outside_by : (f : Found) → (T (is_assigned f) → ⊥) → f ≡ unassigned
 outside_by unassigned n = refl

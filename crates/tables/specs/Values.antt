@@ -1,6 +1,6 @@
 -- A stored table is the list of a function's values: what stands in it, and two functions whose values are one list.
 -- Assumes nothing.
-use Rattle.std.specs.Prelude.{◌≡◌, refl, List, [], ◌∷◌, ℕ, zero, suc, ◌+◌, ◌≤◌, ◌<◌, length, get_or}
+use Rattle.std.specs.Prelude.{◌≡◌, refl, List, [], ◌∷◌, ℕ, zero, suc, ◌+◌, ◌<◌, length, get_or}
 use Rattle.std.proofs.Common.{◌∙◌, ap, sym, add-zero, zero-add, add-suc, suc-add, le_of_suc-le-suc, not-suc-le-zero}
 
 -- f at i, i + 1, .., n values

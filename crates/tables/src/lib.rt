@@ -1,5 +1,7 @@
 // The instruction tables: what an opcode byte means. The definitions stand in specs/Set.antt, a row for each opcode, and specs/Packed.antt
 // says how they are stored. A table is lent to the functions that read it, so that a loop copies it once and not at every look.
+#![tactic(auto)]
+
 mod stored_sizes;
 mod stored_words;
 

@@ -3,12 +3,8 @@
 use mathlib.Core.Path.{refl}
 use Rattle.tables.specs.Set.{size_of, instruction_set}
 use Rattle.tables.specs.Packed.{size_table}
-use Rattle.tables.proofs.sizes.Statement.{statement}
-use Rattle.tables.proofs.sizes.Tie as tie
+use Rattle.tables.proofs.sizes.Goals as goal
 
-returns : tie.Need-returns
+pub returns : goal.returns
 unfolding size_table size_of instruction_set
 returns c = refl
-
-pub sizes-spec : {M : Type 1} → statement M
-sizes-spec = tie.close (tie.spec returns)

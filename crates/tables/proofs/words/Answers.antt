@@ -3,12 +3,8 @@
 use mathlib.Core.Path.{refl}
 use Rattle.tables.specs.Set.{instruction_set}
 use Rattle.tables.specs.Packed.{word_table, word_of, turns}
-use Rattle.tables.proofs.words.Statement.{statement}
-use Rattle.tables.proofs.words.Tie as tie
+use Rattle.tables.proofs.words.Goals as goal
 
-returns : tie.Need-returns
+pub returns : goal.returns
 unfolding word_table word_of turns instruction_set
 returns c = refl
-
-pub words-spec : {M : Type 1} → statement M
-words-spec = tie.close (tie.spec returns)
