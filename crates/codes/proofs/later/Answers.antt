@@ -7,9 +7,7 @@ use mathlib.Core.Path.{◌≡◌}
 use mathlib.Core.Bool.{cond}
 use lib.Dec.{leb}
 use borrow.Author.Tests.{le-leb, lt-leb}
-use borrow.Author.Rules.{rules}
-use Rattle.codes.proofs.later.Statement.{statement}
-use Rattle.codes.proofs.later.Tie as tie
+use Rattle.codes.proofs.later.Goals as goal
 
 module _ (middle id half : ℕ) (m : middle < 65536) (i : id < 65536) where
   abbrev product : ℕ
@@ -33,23 +31,14 @@ module _ (middle id half : ℕ) (m : middle < 65536) (i : id < 65536) where
   begins : (low : ℕ) → low + product ≡ cond (leb middle id) (low + half) low
   begins low = begins-by low (dec_lt id middle)
 
-add-result : tie.Need-overflow-add-result
-add-result c = search rules
-
-sub-result : tie.Need-overflow-sub-result
-sub-result c = search rules
-
-mul-result : tie.Need-overflow-mul-result
-mul-result c = let a = c.args in
+pub overflow_mul-result : goal.overflow_mul-result
+overflow_mul-result c = let a = c.args in
     omega (arith, small a.middle a.id a.half (omega arith) (omega arith))
 
-add-result-2 : tie.Need-overflow-add-result-2
-add-result-2 c = let a = c.args in
+pub overflow_add-result-2 : goal.overflow_add-result-2
+overflow_add-result-2 c = let a = c.args in
     omega (arith, small a.middle a.id a.half (omega arith) (omega arith))
 
-returns : tie.Need-returns
+pub returns : goal.returns
 returns c = let a = c.args in
     begins a.middle a.id a.half (omega arith) (omega arith) a.low
-
-pub later-spec : {M : Type 1} → statement M
-later-spec = tie.close (tie.spec add-result sub-result mul-result add-result-2 returns)
