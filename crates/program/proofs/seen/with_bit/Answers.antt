@@ -8,8 +8,7 @@ use borrow.Author.Tests.{eq-eqb, ne_eqb}
 use borrow.Author.Rules.{rules}
 use Rattle.program.specs.Seen.{bit, with_bit}
 use Rattle.program.proofs.Bits.{flip_fits}
-use Rattle.program.proofs.seen.with_bit.Statement.{statement}
-use Rattle.program.proofs.seen.with_bit.Tie as tie
+use Rattle.program.proofs.seen.with_bit.Goals as goal
 
 module _ (cell k weight : ℕ) (w : weight ≡ 2 ^ k) where
   set_before : cell / weight % 2 ≡ 1 → with_bit cell k ≡ cell
@@ -26,23 +25,17 @@ module _ (cell k weight : ℕ) (w : weight ≡ 2 ^ k) where
         let z : bit cell k ≡ 1 → ⊥ = λ e. n (rw w e) in
         rw w (flip_fits 8 k cell h l (omega arith))
 
-weight-of-requires : tie.Need-weight-of-requires
-weight-of-requires c κs = search rules
+pub nonzero_div-cell : goal.nonzero_div-cell
+nonzero_div-cell c = omega (arith, c.weight_of-weight.ensures, one-le-pow c.args.bit 2 (omega arith))
 
-div-if1 : tie.Need-nonzero-div-if1
-div-if1 c = omega (arith, c.weight-of.ensures, one-le-pow c.before.args.bit 2 (omega arith))
+pub returns-then-cell-weight-eq1 : goal.returns-then-cell-weight-eq1
+returns-then-cell-weight-eq1 c = let a = c.args in
+    sym (set_before a.cell a.bit _ c.weight_of-weight.ensures c.if-cell-weight-eq1.true)
 
-returns : tie.Need-returns
-returns c = let a = c.before.before.args in
-    sym (set_before a.cell a.bit _ c.before.weight-of.ensures c.if1.true)
+pub overflow_add-result : goal.overflow_add-result
+overflow_add-result c = let a = c.args in
+    record { fits = fits a.cell a.bit _ c.weight_of-weight.ensures c.if-cell-weight-eq1.false c.requires (search rules) }
 
-add-result : tie.Need-overflow-add-result
-add-result c = let a = c.before.before.args in
-    record { fits = fits a.cell a.bit _ c.before.weight-of.ensures c.if1.false c.before.before.requires (search rules) }
-
-returns-2 : tie.Need-returns-2
-returns-2 c = let a = c.before.before.args in
-    sym (clear-before a.cell a.bit _ c.before.weight-of.ensures c.if1.false)
-
-pub with-bit-spec : {M : Type 1} → statement M
-with-bit-spec = tie.close (tie.spec weight-of-requires div-if1 returns add-result returns-2)
+pub returns : goal.returns
+returns c = let a = c.args in
+    sym (clear-before a.cell a.bit _ c.weight_of-weight.ensures c.if-cell-weight-eq1.false)
