@@ -1,4 +1,6 @@
 // The answers' numbers: 01's number and values for each case, six fields of 32 bits, and the rule that an answer stands for.
+#![tactic(auto)]
+
 ghost use Rattle.std.specs.Prelude.{◌≡◌, ◌%◌};
 ghost use Rattle.answers.specs.Fields.{word, signed_word, fields_by, violation_fields, refusal_fields, no_fields, rule_number};
 

@@ -1,6 +1,8 @@
 // 01's rules of the temp buffers: what an instruction does at an offset with so many buffers held, and what a body's walk gives. The rules themselves
 // are definitions (specs/Tread.antt, specs/Walk.antt); what they mean is proved in proofs/Theorems.antt.
 
+#![tactic(auto)]
+
 // Where control goes: the path ends, a branch has no legal target, one successor, or the branch target and the next instruction.
 #[derive(Drop)]
 pub enum Way {

@@ -1,5 +1,7 @@
 // What an instruction does to the temp buffers in its program, and which function it opens: the table's word, or what the code list, the function
 // directory and the descriptors say of the id that it names.
+#![tactic(auto)]
+
 ghost use Rattle.std.specs.Prelude.{◌≡◌};
 ghost use Rattle.tables.specs.Packed.{move_in, temp_in};
 ghost use Rattle.codes.specs.Lookup.{place_of, hinted_of};

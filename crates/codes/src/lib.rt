@@ -1,4 +1,7 @@
 // The code list: three lent columns (id, argument count, borrows-a-buffer flag), a row for each id, the ids rising.
+
+#![tactic(auto)]
+
 ghost use Rattle.std.specs.Prelude.{◌≡◌, cond, leb, ◌+◌, ◌<◌, ◌%◌};
 ghost use Rattle.codes.specs.Rows.{rows_of};
 ghost use Rattle.codes.specs.Lookup.{halved_of, looked_up, entry_at, noted, noted_for, hinted_of, hinted_up};

@@ -1,5 +1,7 @@
 // What an instruction takes and leaves in its program: the table's effect, or what the code list or the function directory says of the id
 // that it names. Whether a function gives back a value is decoded once for a program, into a column.
+#![tactic(auto)]
+
 ghost use Rattle.std.specs.Prelude.{◌≡◌, true, cond, eqb};
 ghost use Rattle.tables.specs.Packed.{size_in, move_in};
 ghost use Rattle.program.specs.Program.{list_of};

@@ -1,7 +1,7 @@
 -- What stands at an offset of a body, its operands, where control goes from there, and which targets are legal. `sizes` gives each
 -- opcode's size, 0 where it is unassigned; 01's is `size_of`.
 -- Assumes nothing.
-use Rattle.std.specs.Prelude.{ℕ, ◌+◌, ◌-◌, ◌*◌, Bool, true, false, cond, List, ltb, leb, eqb, length, get_or, take, drop}
+use Rattle.std.specs.Prelude.{ℕ, ◌+◌, ◌-◌, ◌*◌, cond, List, ltb, leb, eqb, length, get_or, take, drop}
 use Rattle.flow.specs.declared.Step.{Step}
 use Rattle.flow.specs.declared.Step.TheVariants.{End, Unknown, Truncated, Instruction}
 use Rattle.flow.specs.declared.Flow.{Flow}

@@ -7,7 +7,6 @@ use Rattle.flow.specs.Walk.{walk_by, mark_all, end_of}
 use Rattle.flow.specs.declared.starts.Decoded.TheVariants as D
 use Rattle.flow.specs.declared.starts.Decoded.{Decoded}
 use Rattle.flow.specs.declared.Spot.TheVariants.{At, Before}
-use Rattle.flow.specs.declared.Target.{Target}
 use Rattle.flow.specs.declared.Target.TheVariants.{Legal, Illegal}
 
 -- a body, how its decoding ends, and its marks

@@ -1,10 +1,10 @@
 -- The laws of decoding that loops and the crates above use, in the place of the definitions, over any sizes.
 -- Assumes nothing.
-use Rattle.std.specs.Prelude.{ℕ, zero, suc, ◌+◌, ◌-◌, ◌≤◌, ◌<◌, ◌≡◌, Bool, true, false, cond, List, ltb, leb, eqb, length, get_or}
+use Rattle.std.specs.Prelude.{ℕ, zero, suc, ◌+◌, ◌-◌, ◌≤◌, ◌<◌, ◌≡◌, Bool, true, false, cond, List, leb, eqb, length, get_or}
 use Rattle.std.proofs.Math.Path.{refl}
-use Rattle.std.proofs.Common.{◌∙◌, ap, sym, arith}
+use Rattle.std.proofs.Common.{◌∙◌, ap, arith}
 use borrow.Author.Tests.{leb-true, leb-false, le-leb, lt-leb, eqb-false, ne_eqb}
-use Rattle.flow.specs.Decode.{step_by, step_op}
+use Rattle.flow.specs.Decode.{step_by}
 use Rattle.flow.specs.Walk.{Walk, stops, instr, on_step, walk_in, walk_by}
 use Rattle.flow.specs.declared.starts.Decoded.TheVariants as D
 use Rattle.flow.specs.declared.Step.{Step}

@@ -1,25 +1,23 @@
 -- Where control can stand in a body that decodes to its end: offset 0, an instruction's next offset and a legal target are each a start or
 -- the length. A walk that is led by these never leaves the starts.
 -- Assumes nothing.
-use Rattle.std.specs.Prelude.{ℕ, zero, suc, ◌+◌, ◌-◌, ◌≤◌, ◌<◌, ◌≡◌, refl, ◌⊎◌, Bool, true, false, cond, List, ltb, eqb, length, get_or}
-use Rattle.std.proofs.Common.{◌∙◌, ap, sym, subst, inl, inr, ⊎_elim, arith, eqb-true, ltb-true, ltb-false, eq-eqb, ne_eqb}
+use Rattle.std.specs.Prelude.{ℕ, zero, suc, ◌+◌, ◌≤◌, ◌<◌, ◌≡◌, refl, ◌⊎◌, Bool, true, false, cond, List, ltb, eqb, length, get_or}
+use Rattle.std.proofs.Common.{◌∙◌, ap, sym, subst, inl, inr, ⊎_elim, arith, eqb-true, ltb-false, eq-eqb, ne_eqb}
 use Rattle.std.proofs.lemmas.Bool.{eqb-false}
 use Rattle.tables.specs.Packed.{turns}
-use Rattle.tables.specs.Laws.{NoTurn, no_turn}
-use Rattle.flow.specs.declared.starts.Decoded.{Decoded}
+use Rattle.tables.specs.Laws.{no_turn}
 use Rattle.flow.specs.declared.starts.Decoded.TheVariants as D
 use Rattle.flow.specs.declared.Step.{Step}
 use Rattle.flow.specs.declared.Step.TheVariants.{End, Unknown, Truncated, Instruction}
 use Rattle.flow.specs.declared.Flow.TheVariants.{Next, Jump, Branch, Return}
 use Rattle.flow.specs.declared.Spot.{Spot}
 use Rattle.flow.specs.declared.Spot.TheVariants.{At, Before}
-use Rattle.flow.specs.declared.Target.{Target}
 use Rattle.flow.specs.declared.Target.TheVariants.{Legal, Illegal}
 use Rattle.flow.specs.Decode.{step_by, word_at, flow_of, target_of}
 use Rattle.cells.specs.Zeros.{zeros, length_zeros, any_zero}
-use Rattle.flow.specs.Walk.{Walk, stops, instr, on_step, walk_in, walk_by, end_of, mark_all, marks_of, is_start}
-use Rattle.flow.specs.Laws.{Stands, stands, end_only}
-use Rattle.flow.specs.Starts.{split, join, true_not_false, marked, Begins, begins}
+use Rattle.flow.specs.Walk.{instr, on_step, walk_in, walk_by, end_of, mark_all, marks_of, is_start}
+use Rattle.flow.specs.Laws.{stands, end_only}
+use Rattle.flow.specs.Starts.{split, join, true_not_false, marked, begins}
 
 -- a start of the body, or its length
 abbrev pub Standing : (ℕ → ℕ) → List ℕ → ℕ → Type 0

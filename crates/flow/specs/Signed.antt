@@ -1,7 +1,7 @@
 -- The same in signed numbers: a place is an integer, and `moved` is a sum. Promises speak of places; this page says what they mean.
 -- Assumes nothing.
-use Rattle.std.specs.Prelude.{ℕ, zero, suc, ◌+◌, ◌-◌, ◌≤◌, ◌<◌, ◌≡◌, refl, Bool, true, false, cond, ltb, leb, ℤ, pos, negsuc, neg_ℤ, ◌+ℤ◌, ◌-ℤ◌}
-use Rattle.std.proofs.Common.{◌∙◌, ap, sym, arith, ltb-true, ltb-false, leb-true, leb-false, lt-ltb, le-ltb}
+use Rattle.std.specs.Prelude.{ℕ, suc, ◌+◌, ◌-◌, ◌≤◌, ◌<◌, ◌≡◌, refl, Bool, true, false, cond, ltb, leb, ℤ, pos, negsuc, neg_ℤ, ◌+ℤ◌}
+use Rattle.std.proofs.Common.{ap, arith, leb-true, leb-false, lt-ltb, le-ltb}
 use Rattle.std.proofs.Math.IntN.{sub_ℕ}
 use Rattle.flow.specs.Decode.{moved}
 use Rattle.flow.specs.declared.Spot.{Spot}

@@ -1,20 +1,14 @@
 -- The laws of starts that the crates above use. Marks are exactly the decoded starts, each with its instruction's size; an instruction's next
 -- offset, in a body that decodes to its end, is a start or the length; so is offset 0; a legal target is a start or the length.
 -- Assumes nothing.
-use Rattle.std.specs.Prelude.{ℕ, zero, suc, ◌+◌, ◌-◌, ◌≤◌, ◌<◌, ◌≡◌, refl, ◌⊎◌, Bool, true, false, cond, List, ltb, eqb, length, get_or, set}
-use Rattle.std.proofs.Common.{◌∙◌, ap, sym, inl, inr, ⊎_elim, arith, length-set, get_or-set_same, get_or-set_other, eqb-true, ltb-false, eq-eqb}
+use Rattle.std.specs.Prelude.{ℕ, zero, suc, ◌+◌, ◌<◌, ◌≡◌, refl, ◌⊎◌, Bool, true, false, cond, List, eqb, length, get_or, set}
+use Rattle.std.proofs.Common.{◌∙◌, ap, sym, inl, inr, ⊎_elim, arith, length-set, get_or-set_same, get_or-set_other, eqb-true}
 use Rattle.std.proofs.lemmas.Bool.{eqb-false}
-use Rattle.flow.specs.declared.starts.Decoded.{Decoded}
-use Rattle.flow.specs.declared.starts.Decoded.TheVariants as D
 use Rattle.flow.specs.declared.Step.{Step}
 use Rattle.flow.specs.declared.Step.TheVariants.{End, Unknown, Truncated, Instruction}
-use Rattle.flow.specs.declared.Spot.{Spot}
-use Rattle.flow.specs.declared.Spot.TheVariants.{At, Before}
-use Rattle.flow.specs.declared.Target.{Target}
-use Rattle.flow.specs.declared.Target.TheVariants.{Legal, Illegal}
-use Rattle.flow.specs.Decode.{step_by, target_of}
-use Rattle.flow.specs.Walk.{Walk, stops, instr, on_step, walk_in, walk_by, end_of, mark_all, is_start}
-use Rattle.flow.specs.Laws.{Stands, stands, step_end}
+use Rattle.flow.specs.Decode.{step_by}
+use Rattle.flow.specs.Walk.{Walk, stops, instr, on_step, walk_in, walk_by, mark_all, is_start}
+use Rattle.flow.specs.Laws.{stands}
 
 -- `size` stands at `at`; the rest of the walk has no start at t, or has one with the size v
 marked_by : (at t size v : ℕ) (marks : List ℕ) (b c : Bool) → eqb t at ≡ b → (t ≡ at → size ≡ v) → t < length marks → cond c v (get_or (set marks at size) t 0) ≡ cond (cond b true c) v (get_or marks t 0)

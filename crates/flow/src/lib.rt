@@ -1,4 +1,6 @@
 // Decoding, operands, control flow and branch targets. Of the instruction tables only their promises are used, over any lent table of sizes.
+#![tactic(auto)]
+
 pub mod starts;
 
 ghost use Rattle.std.specs.Prelude.{◌≡◌, ◌+◌, ◌*◌};

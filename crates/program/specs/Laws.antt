@@ -1,7 +1,7 @@
 -- What the refusals mean: each part decides exactly.
 -- Assumes nothing.
-use Rattle.std.specs.Prelude.{ℕ, zero, suc, ◌+◌, ◌-◌, ◌≤◌, ◌<◌, ◌≡◌, ◌⊎◌, Bool, true, false, cond, ◌||◌, ◌&&◌, List, [], ◌∷◌, ltb, eqb, length}
-use Rattle.std.proofs.Common.{suc-le-suc, zero-le, eq-or-lt_of_le, not-suc-le-zero, le_of_suc-le-suc, ◌∙◌, ap, sym, inl, inr}
+use Rattle.std.specs.Prelude.{ℕ, zero, suc, ◌+◌, ◌-◌, ◌≤◌, ◌<◌, ◌≡◌, Bool, true, false, cond, ◌&&◌, List, [], ◌∷◌, ltb, eqb, length}
+use Rattle.std.proofs.Common.{suc-le-suc, zero-le, eq-or-lt_of_le, not-suc-le-zero, le_of_suc-le-suc, ◌∙◌, ap, sym}
 use native.Mathlib.Omega.{arith}
 use Rattle.std.proofs.Math.Path.{refl}
 use Rattle.std.proofs.Math.Logic.{⊎_elim}

@@ -1,4 +1,7 @@
 // The columns of a program, and the refusals of an input: 30 to 35.
+
+#![tactic(auto)]
+
 mod bodies;
 mod counts;
 mod seen;

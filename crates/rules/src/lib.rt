@@ -1,5 +1,7 @@
 // 01's rules of the operand stack: what an effect is known to be, what stands against an instruction at an offset and a depth, and what a walk
 // answers. The rules themselves are definitions (specs/Look.antt, specs/Walk.antt); what acceptance means is proved in proofs/Exact.antt.
+#![tactic(auto)]
+
 use flow::Spot;
 use tables::Effect;
 

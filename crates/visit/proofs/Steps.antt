@@ -8,8 +8,6 @@ use mathlib.Core.List.{List, [], ◌∷◌}
 use mathlib.Core.Logic.{◌⊎◌, inl, inr, ⊎_elim}
 use Prim.Native.Nat.{ℕ, zero, suc, ◌+◌, ◌*◌, ◌-◌, ◌≤◌, ◌<◌, max, min}
 use native.Mathlib.Omega.{arith}
-use types.Run.{OneOf}
-use denote.Enum.Declared.{tag_of}
 use lib.ListN.{get_or}
 use borrow.Author.Tests.{eq-eqb}
 use Rattle.visit.specs.declared.Visited.{Visited}
@@ -23,14 +21,13 @@ use Rattle.visit.specs.Answers.{Failed, cycled, passed, fine_is, fine_not_failed
 use Rattle.visit.specs.Fuel.{total_step}
 use Rattle.visit.specs.Exact.{independent}
 use Rattle.visit.specs.Marks.{open_in, ClosedIn, opened, closed, answered, Kept, After, Visits, Walks}
-use Rattle.visit.specs.contracts.Visited.{the_type}
 use Rattle.visit.proofs.Colours.{open_not, two, opened_open, after_itself, after_both, closed_self, closed_total, closed_after, met_closed}
 
--- the arms of a `let Visited::Fine(..) = a else`: the tag is 1 or 2
-pub failed : (a : Visited) → OneOf (1 ∷ 2 ∷ []) (tag_of the_type a) → Failed a
-failed (Fine t) h = absurd (⊎_elim (λ e. omega arith) (λ e. omega arith) h)
-failed (Cycle g) h = cycled
-failed (Over g d) h = passed
+-- the arms of a `let Visited::Fine(..) = a else`: it is no `Fine`
+pub failed : (a : Visited) → ((t : ℕ) → a ≡ Fine t → ⊥) → Failed a
+failed (Fine t) n = absurd (n t refl)
+failed (Cycle g) n = cycled
+failed (Over g d) n = passed
 
 -- ---- what is left of a row
 abbrev pub rest : List ℕ → ℕ → ℕ → List ℕ

@@ -1,4 +1,7 @@
 // The visit of the pool check: for each entry, depth first, a function's total and the largest total among its callees ask for each other.
+
+#![tactic(auto)]
+
 ghost use Rattle.std.specs.Prelude.{◌≡◌, ◌+◌, ◌<◌, min, max, get_or};
 ghost use Rattle.program.specs.Seat.{seat_of};
 ghost use Rattle.visit.specs.Visit.{visit_of};
@@ -8,7 +11,7 @@ ghost use Rattle.visit.specs.Marks.{Kept, Visits, Walks, AtRest, Meets};
 use codes::Place;
 
 // What a visit answers: a total; 21, with the row of the callee still open; 20, with the row of the function that closed above the pool and its total.
-#[derive(Drop)]
+#[derive(Clone, Copy)]
 pub enum Visited {
     Fine(u16),
     Cycle(usize),
