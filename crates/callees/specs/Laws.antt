@@ -1,8 +1,8 @@
 -- On an input that is not refused, what the code reads is 01's: hints and a function's own number find the row that reading row after row finds. An
 -- instruction that is plain does to the buffers what the table says and opens nothing. A cell is at most 128.
 -- Assumes nothing.
-use Rattle.std.specs.Prelude.{ℕ, ◌+◌, ◌≤◌, ◌<◌, ◌≡◌, refl, Bool, true, false, List, eqb, ltb, get_or}
-use Rattle.std.proofs.Common.{arith, ◌∙◌, ap₂, ltb-true}
+use Rattle.std.specs.Prelude.{ℕ, ◌+◌, ◌≤◌, ◌≡◌, refl, Bool, true, false, List, eqb, ltb, get_or}
+use Rattle.std.proofs.Common.{arith, ◌∙◌, ltb-true}
 use Rattle.std.proofs.Math.Path.{ap}
 use Rattle.std.proofs.Math.Bool.{cond}
 use Rattle.tables.specs.declared.Effect.{Effect}
@@ -15,12 +15,11 @@ use Rattle.codes.specs.declared.Place.TheVariants.{Row, Nowhere}
 use Rattle.codes.specs.Lookup.{place_of, hinted_of}
 use Rattle.codes.specs.LookupLaws.{hinted_place}
 use Rattle.program.specs.declared.Room.{Room}
-use Rattle.program.specs.Program.{Program, PoolProgram}
+use Rattle.program.specs.Program.{Program}
 use Rattle.program.specs.Seat.{seat_of}
 use Rattle.program.specs.Laws.{seat_place}
 use Rattle.program.specs.Taken.{StackTaken}
-use Rattle.buffers.specs.Tread.{Temps, Opens}
-use Rattle.callees.specs.Callees.{on_flag, temp_by, temps_by, cell_at, block_by, open_by, opens_by}
+use Rattle.callees.specs.Callees.{temp_by, temps_by, cell_at, block_by, open_by, opens_by}
 
 -- in any table, an instruction whose effect is the table's
 module _ (moves : ℕ → Move) (op : ℕ) (e : Effect) (fixed : moves op ≡ Fixed e) (operands : List ℕ) where

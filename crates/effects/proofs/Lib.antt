@@ -1,1 +1,2 @@
 pub mod Filling
+mod Scanning

@@ -1,7 +1,7 @@
 -- What an instruction takes and leaves in a program. `known…By` reads lent columns as the code does; `known_of` is 01's, with every lookup row by row
 -- and each callee decoded; specs/Laws.antt says that on an input that is not refused they are one.
 -- Assumes nothing.
-use Rattle.std.specs.Prelude.{ℕ, zero, suc, ◌+◌, Bool, true, false, cond, List, length, get_or, set, take, drop}
+use Rattle.std.specs.Prelude.{ℕ, zero, suc, Bool, true, false, cond, List, length, get_or, set, take, drop}
 use Rattle.tables.specs.declared.Move.{Move}
 use Rattle.tables.specs.declared.Move.TheVariants.{Fixed, Builtin, Call, Method}
 use Rattle.tables.specs.Set.{effect, size_of}
@@ -12,7 +12,7 @@ use Rattle.codes.specs.declared.Entry.TheVariants.{Listed, Unknown}
 use Rattle.codes.specs.declared.Place.{Place}
 use Rattle.codes.specs.declared.Place.TheVariants.{Row, Nowhere}
 use Rattle.codes.specs.Lookup.{hinted_up, entry_of, place_of}
-use Rattle.program.specs.Program.{CodeList, Functions, Program, body_of}
+use Rattle.program.specs.Program.{CodeList, Program, body_of}
 use Rattle.program.specs.Seat.{seat_of}
 use Rattle.rules.specs.declared.Known.{Known}
 

@@ -16,7 +16,7 @@ ghost use Rattle.program.specs.Seat.{seat_of};
 use codes::{Order, Place};
 
 // What is said of an input before anything is checked.
-#[derive(Drop)]
+#[derive(Clone, Copy)]
 pub enum Input {
     Taken,
     TooMany,
