@@ -110,16 +110,22 @@ fn ask(
     room: Room,
     cells: usize,
 ) -> io::Result<()> {
+    let room_again = Room {
+        marks: room.marks,
+        depths: room.depths,
+        queue: room.queue,
+        queue_depths: room.queue_depths,
+    };
     let stack = program::stack_input(
         ids, parameters, maxima, offsets, lengths, list_ids, counts, flags, code, room,
     );
-    let PoolGives = program::pool_input(
+    let pooled = program::pool_input(
         ids, parameters, maxima, offsets, lengths, list_ids, counts, flags, code, types, callees,
-        entries, pool, room, cells,
+        entries, pool, room_again, cells,
     );
     rt.write_all(name)?;
     print_answer(rt, b": stack ", stack)?;
-    print_answer(rt, b", pool ", PoolGives)?;
+    print_answer(rt, b", pool ", pooled)?;
     rt.write_all(b"\n")
 }
 

@@ -1,5 +1,4 @@
 -- `visit_main::chain` is safe and ends: the functions are passed in order. Assumes nothing.
-use borrow.Author.Rules.{rules}
 use Prim.Native.Nat.{◌≤◌, ◌-◌}
 use mathlib.Core.Path.{◌≡◌}
 use lib.ListN.{length}

@@ -1,5 +1,4 @@
 -- `visit_main::full_row` is safe and ends: the cells of the row are passed in order. Assumes nothing.
-use borrow.Author.Rules.{rules}
 use Prim.Native.Nat.{◌≤◌, ◌-◌}
 use mathlib.Core.Path.{◌≡◌}
 use lib.ListN.{length}
