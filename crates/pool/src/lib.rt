@@ -1,5 +1,7 @@
 // The pool check of 01 over lent columns and lent scratch: each function in directory order decoded and walked, then for each entry the depth-first
 // visit of the call graph.
+#![tactic(auto)]
+
 mod bodies;
 mod tread;
 mod walk;

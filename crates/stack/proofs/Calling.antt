@@ -1,13 +1,13 @@
 -- The whole call: what the code reads out of its tables and columns on an input that is taken is 01's, the cleared scratch has room, and what the
 -- answer leaves of the scratch.
 -- Assumes nothing.
-use Prim.Native.Nat.{ℕ, zero, suc, ◌+◌, ◌*◌, ◌≤◌, ◌<◌}
+use Prim.Native.Nat.{ℕ, zero, suc, ◌≤◌}
 use native.Mathlib.Omega.{arith}
 use mathlib.Core.Path.{◌≡◌, refl, ◌∙◌, ap, ap₂, sym}
-use mathlib.Core.Bool.{Bool, true, false, false≢true, true≢false}
+use mathlib.Core.Bool.{true, false, true≢false}
 use mathlib.Core.List.{List}
 use lib.ListN.{length, get_or}
-use Rattle.cells.specs.Zeros.{zeros, length_zeros, as_long, ZeroAfter}
+use Rattle.cells.specs.Zeros.{zeros, length_zeros, ZeroAfter}
 use Rattle.tables.specs.declared.Move.{Move}
 use Rattle.tables.specs.Set.{size_of, move_of}
 use Rattle.tables.specs.Laws.{method_only}
@@ -18,7 +18,6 @@ use Rattle.program.specs.declared.Room.{Room}
 use Rattle.program.specs.Program.{Program, body_of}
 use Rattle.program.specs.Refusals.{stack_input, is_taken, room_of}
 use Rattle.program.specs.Taken.{StackTaken, stack_taken, taken_is}
-use Rattle.rules.specs.declared.Violation.{Violation}
 use Rattle.rules.specs.declared.Walked.{Walked}
 use Rattle.rules.specs.Look.{Effects}
 use Rattle.effects.specs.Effects.{directory_of, known_by, known_of, given_back}

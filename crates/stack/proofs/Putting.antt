@@ -3,7 +3,7 @@
 use Prim.Native.Nat.{ℕ, ◌+◌, ◌-◌, ◌≤◌, ◌<◌}
 use native.Mathlib.Numerals.{add-one}
 use native.Mathlib.Omega.{arith}
-use mathlib.Core.Path.{◌≡◌, refl, ◌∙◌, ap, ap₂, sym}
+use mathlib.Core.Path.{◌≡◌, refl, ◌∙◌, ap, sym}
 use mathlib.Core.Bool.{Bool, true, false, cond}
 use mathlib.Core.List.{List, [], ◌∷◌, ◌++◌}
 use lib.Dec.{eqb}
@@ -13,7 +13,7 @@ use borrow.Author.Tests.{eqb-true, eqb-false}
 use Rattle.rules.specs.declared.Violation.{Violation}
 use Rattle.rules.specs.declared.Look.{Look}
 use Rattle.rules.specs.Look.{Effects, look_of, Bounded}
-use Rattle.rules.specs.Walk.{Outcome, stop, go, put, count}
+use Rattle.rules.specs.Walk.{Outcome, stop, go, put}
 use Rattle.rules.proofs.Bound.{look_bounded}
 use Rattle.rules.proofs.Counting.{count_room, count_set}
 use Rattle.rules.proofs.Queue.{put_new, put_same, put_clash}

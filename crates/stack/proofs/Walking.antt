@@ -4,13 +4,13 @@
 use Prim.Native.Nat.{ℕ, ◌+◌, ◌-◌, ◌≤◌, ◌<◌}
 use native.Mathlib.Omega.{arith}
 use mathlib.Core.Path.{◌≡◌, refl, ◌∙◌, ap, sym}
-use mathlib.Core.Bool.{Bool, true}
+use mathlib.Core.Bool.{true}
 use mathlib.Core.List.{List, [], ◌∷◌, ◌++◌}
 use lib.ListN.{length, get_or, take, drop}
 use Rattle.rules.specs.declared.Look.{Look}
 use Rattle.rules.specs.declared.Violation.{Violation}
 use Rattle.rules.specs.declared.Walked.{Walked}
-use Rattle.rules.specs.Walk.{Outcome, stop, go, follow, walk_from, begun, walk_of, count}
+use Rattle.rules.specs.Walk.{stop, go, follow, walk_from, begun, walk_of}
 use Rattle.rules.proofs.Counting.{count_le, length_begun, count_begun, begun_first}
 use Rattle.rules.proofs.Queue.{loop_stop, loop_go, loop_empty, loop_on, walk_over, walk_begun}
 use Rattle.stack.specs.declared.walk.Turn.{Turn}

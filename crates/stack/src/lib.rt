@@ -1,5 +1,7 @@
 // The stack check of 01 over lent columns and lent scratch: functions in directory order, the whole body decoded first, then the walk; the first
 // violation ends the call. It never looks at descriptors, entries or pool.
+#![tactic(auto)]
+
 mod bodies;
 mod look;
 mod walk;

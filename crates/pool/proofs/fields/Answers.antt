@@ -1,0 +1,44 @@
+-- `pool::fields` meets its contract, case by case.
+-- Assumes nothing.
+use Prim.Native.Nat.{ℕ}
+use mathlib.Core.Path.{◌≡◌, ◌∙◌, sym, ap, ap₂}
+use Rattle.answers.specs.Fields.{fields_by}
+use Rattle.pool.specs.Pool.{fields_of}
+use borrow.Author.Rules.{rules}
+use Rattle.pool.proofs.fields.Reads as reads
+use Rattle.pool.proofs.fields.Lts as lts
+use Rattle.answers.proofs.accepted.Reads as accepted-reads
+use Rattle.answers.proofs.fields_by.Reads as fields-by-reads
+use Rattle.answers.proofs.of_refusal.Reads as of-refusal-reads
+use Rattle.pool.proofs.wide.Reads as wide-reads
+use Rattle.pool.proofs.fields.Goals as goal
+
+-- src/lib.rt:217:1
+pub returns-in-Refused : goal.returns-in-Refused
+unfolding fields_of
+returns-in-Refused c = c.of_refusal.ensures ∙ sym (ap fields_of c.in-Refused.is)
+
+-- src/lib.rt:217:1
+pub returns-in-Accepted : goal.returns-in-Accepted
+unfolding fields_of
+returns-in-Accepted c = c.accepted.ensures ∙ sym (ap fields_of c.in-Accepted.is)
+
+-- src/lib.rt:217:1
+pub returns-in-ExceedsDeclaredPool : goal.returns-in-ExceedsDeclaredPool
+unfolding fields_of
+returns-in-ExceedsDeclaredPool c = let v = c.verdict-in-ExceedsDeclaredPool-1.given.0 in c.fields_by.ensures ∙ ap₂ (λ (x y : ℕ). fields_by 20 v.0 v.1.0 x y 0) c.wide.ensures c.wide-in-ExceedsDeclaredPool.ensures ∙ sym (ap fields_of c.in-ExceedsDeclaredPool.is)
+
+-- src/lib.rt:217:1
+pub returns-in-RecursiveCallGraph : goal.returns-in-RecursiveCallGraph
+unfolding fields_of
+returns-in-RecursiveCallGraph c = c.fields_by-in-RecursiveCallGraph.ensures ∙ sym (ap fields_of c.in-RecursiveCallGraph.is)
+
+-- src/lib.rt:217:1
+pub returns-in-Undecodable : goal.returns-in-Undecodable
+unfolding fields_of
+returns-in-Undecodable c = c.fields_by-in-Undecodable.ensures ∙ sym (ap fields_of c.in-Undecodable.is)
+
+-- src/lib.rt:217:1
+pub returns-in-QueueFull : goal.returns-in-QueueFull
+unfolding fields_of
+returns-in-QueueFull c = c.fields_by-in-QueueFull.ensures ∙ sym (ap fields_of c.in-QueueFull.is)

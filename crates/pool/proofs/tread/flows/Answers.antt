@@ -1,0 +1,27 @@
+-- `pool::tread::flows` meets its contract: each way on is a case of `flowing`.
+-- Assumes nothing.
+use Rattle.pool.proofs.Treading.{flows_next, flows_jump, flows_branch, flows_return}
+use borrow.Author.Rules.{rules}
+use Rattle.pool.proofs.tread.flows.Reads as reads
+use Rattle.pool.proofs.tread.flows.Lts as lts
+use Rattle.flow.proofs.branch_target.Reads as branch-target-reads
+use Rattle.flow.proofs.flow_of.Reads as flow-of-reads
+use Rattle.pool.proofs.tread.fork_to.Reads as fork-to-reads
+use Rattle.pool.proofs.tread.jump_to.Reads as jump-to-reads
+use Rattle.pool.proofs.tread.flows.Goals as goal
+
+-- src/tread.rt:77:1
+pub returns-in-Next : goal.returns-in-Next
+returns-in-Next c = flows_next _ _ _ _ _ c.flow_of-way.ensures c.in-Next.is
+
+-- src/tread.rt:77:1
+pub returns-in-Jump : goal.returns-in-Jump
+returns-in-Jump c = flows_jump _ _ _ _ _ c.flow_of-way.ensures _ _ _ c.in-Jump.is c.branch_target.ensures c.jump_to.ensures
+
+-- src/tread.rt:77:1
+pub returns-in-Branch : goal.returns-in-Branch
+returns-in-Branch c = flows_branch _ _ _ _ _ c.flow_of-way.ensures _ _ _ c.in-Branch.is c.branch_target-in-Branch.ensures c.fork_to.ensures
+
+-- src/tread.rt:77:1
+pub returns-in-Return : goal.returns-in-Return
+returns-in-Return c = flows_return _ _ _ _ _ c.flow_of-way.ensures c.in-Return.is

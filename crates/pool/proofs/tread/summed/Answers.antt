@@ -1,0 +1,23 @@
+-- `pool::tread::summed` meets its contract: each temp effect is a case of `sum_past`.
+-- Assumes nothing.
+use Prim.Native.Nat.{ℕ}
+use mathlib.Core.Path.{◌≡◌, sym, ap}
+use Rattle.tables.specs.declared.TempEffect.{TempEffect}
+use Rattle.buffers.specs.Tread.{sum_past}
+use Rattle.pool.proofs.Treading.{sum_none}
+use borrow.Author.Rules.{rules}
+use Rattle.pool.proofs.tread.summed.Reads as reads
+use Rattle.pool.proofs.tread.summed.Lts as lts
+use Rattle.pool.proofs.tread.summed.Goals as goal
+
+-- src/tread.rt:40:17
+pub returns-then-held-eq0 : goal.returns-then-held-eq0
+returns-then-held-eq0 c = sum_none _ _ c.in-GivesBack.is c.if-held-eq0.true
+
+-- src/tread.rt:31:1
+pub returns-in-Borrows : goal.returns-in-Borrows
+returns-in-Borrows c = sym (ap (λ (e : TempEffect). sum_past e c.args.held) c.in-Borrows.is)
+
+-- src/tread.rt:31:1
+pub returns-else-held-eq0 : goal.returns-else-held-eq0
+returns-else-held-eq0 c = sym (ap (λ (e : TempEffect). sum_past e c.args.held) c.in-GivesBack.is)

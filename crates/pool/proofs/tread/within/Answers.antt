@@ -1,0 +1,18 @@
+-- `pool::tread::within` meets its contract, by the sum and the pool.
+-- Assumes nothing.
+use mathlib.Core.Path.{◌≡◌, sym}
+use native.Mathlib.Omega.{arith}
+use Rattle.buffers.proofs.Cases.{bounded_over, bounded_within}
+use borrow.Author.Rules.{rules}
+use Rattle.pool.proofs.tread.within.Reads as reads
+use Rattle.pool.proofs.tread.within.Lts as lts
+use Rattle.pool.proofs.tread.wide16.Reads as wide16-reads
+use Rattle.pool.proofs.tread.within.Goals as goal
+
+-- src/tread.rt:52:9
+pub returns-then-wide16-sum : goal.returns-then-wide16-sum
+returns-then-wide16-sum c = sym (bounded_over _ _ _ (omega (arith, c.wide16.ensures, c.if-wide16-sum.true)))
+
+-- src/tread.rt:48:1
+pub returns : goal.returns
+returns c = sym (bounded_within _ _ _ (omega (arith, c.wide16.ensures, c.if-wide16-sum.false)))

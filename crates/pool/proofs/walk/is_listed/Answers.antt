@@ -1,0 +1,25 @@
+use borrow.Author.Rules.{rules}
+use native.Mathlib.Omega.{arith}
+use Prim.Native.Nat.{ℕ, ◌≤◌, ◌<◌, ◌-◌, ◌+◌}
+use mathlib.Core.Path.{◌≡◌}
+use lib.ListN.{length}
+use Rattle.pool.proofs.Listing.{Looking, looking_first, looking_end, looking_on, looking_found}
+use Rattle.pool.proofs.walk.is_listed.Reads as reads
+use Rattle.pool.proofs.walk.is_listed.Lts as lts
+use Rattle.pool.proofs.walk.is_listed.Goals as goal
+
+-- src/walk.rt:216:5
+pub loop-i-init : goal.loop-i-init
+loop-i-init c = looking_first _ _ _
+
+-- src/walk.rt:218:13
+pub returns-then-row-i : goal.returns-then-row-i
+returns-then-row-i c = looking_found _ _ _ _ c.loop-i.invariant c.loop-i-test.true c.requires c.if-row-i.true
+
+-- src/walk.rt:216:5
+pub loop-i-preserved : goal.loop-i-preserved
+loop-i-preserved c = looking_on _ _ _ _ c.loop-i.invariant c.loop-i-test.true c.requires c.if-row-i.false
+
+-- src/walk.rt:211:1
+pub returns : goal.returns
+returns c = looking_end _ _ _ _ c.loop-i.invariant c.loop-i-test.false

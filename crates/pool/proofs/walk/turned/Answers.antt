@@ -1,0 +1,18 @@
+-- `pool::walk::turned` meets its contract.
+-- Assumes nothing.
+use mathlib.Core.Path.{◌≡◌, sym, ap}
+use Rattle.pool.specs.Columns.{turn_of}
+use borrow.Author.Rules.{rules}
+use Rattle.pool.proofs.walk.turned.Reads as reads
+use Rattle.pool.proofs.walk.turned.Lts as lts
+use Rattle.pool.proofs.walk.turned.Goals as goal
+
+-- src/walk.rt:108:1
+pub returns-in-Full : goal.returns-in-Full
+unfolding turn_of
+returns-in-Full c = search rules
+
+-- src/walk.rt:108:1
+pub returns-in-Go : goal.returns-in-Go
+unfolding turn_of
+returns-in-Go c = sym (ap turn_of c.in-Go.is)
