@@ -21,7 +21,7 @@ use Rattle.seven.specs.Seven.{Bytes}
 use Rattle.file.specs.Numbers.{numbers}
 use Rattle.file.specs.Tables.{layout_of, pool_of, rows_of, functions_of, descriptors_of, entries_of, code_of}
 use Rattle.file.specs.Columns.{column_of, column_at, numbers_of_table, over}
-use Rattle.file.specs.TableLaws.{Stood, low, whole, all_there}
+use Rattle.file.proofs.TableLaws.{Stood, low, whole, all_there}
 use Rattle.file.proofs.LaidLaws.{column_front}
 use Rattle.file.specs.Transposed.{column_length}
 use Rattle.file.specs.Stated.{tables_from, Columns, columns, Bench, Stated, states, refuses, tables_in, bench_of, stated_by, stated, below, short_room, room_of, read_into, sizes_of, sizes_in, outcome_of, laid_over, leaves, Ready}

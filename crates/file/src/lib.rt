@@ -1,5 +1,8 @@
 // The bench file (01, "Bench file, program and C entry"), read into lent columns. One pass reads all numbers into cells of its
 // own, a second fills the columns, so that a refused file leaves them as they were.
+
+#![tactic(auto)]
+
 mod lent;
 mod measure;
 
@@ -159,7 +162,7 @@ fn into_code(code: &mut [u8], file: &[u8], table: Table)
 {
     let start = table.start;
     let end = start + wide(table.count);
-    bytes::copy(&file[start..end], code);
+    code[..end - start].copy_from_slice(&file[start..end]);
 }
 
 fn sizes_of(layout: Layout) -> Sizes

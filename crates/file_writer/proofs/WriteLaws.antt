@@ -13,7 +13,7 @@ use lib.Dec.{ltb, leb}
 use borrow.Author.Tests.{lt-ltb, le-ltb, le-leb, lt-leb}
 use Rattle.seven.specs.declared.Put.{Put}
 use Rattle.seven.specs.declared.Put.TheVariants.{After, NoRoom}
-use Rattle.seven.specs.Forms.{by_test}
+use Rattle.seven.proofs.Forms.{by_test}
 use Rattle.seven.specs.Write.{laid}
 use Rattle.file_writer.specs.declared.Wrote.{Wrote}
 use Rattle.file_writer.specs.declared.Wrote.TheVariants as W

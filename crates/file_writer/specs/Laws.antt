@@ -6,15 +6,15 @@ use Rattle.std.proofs.Common.{sym, ◌∙◌, ap, arith, length-drop, take_at, g
 use Rattle.seven.specs.declared.Number.{Number}
 use Rattle.seven.specs.declared.Number.TheVariants as N
 use Rattle.seven.specs.Seven.{number_at, Bytes}
-use Rattle.seven.specs.Forms.{by_test}
-use Rattle.seven.specs.Laws.{Stands, stands}
+use Rattle.seven.proofs.Forms.{by_test}
+use Rattle.seven.proofs.Laws.{Stands, stands}
 use Rattle.file_writer.specs.declared.Wrote.{Wrote}
 use Rattle.file_writer.specs.declared.Wrote.TheVariants as W
 use Rattle.file.specs.declared.Reading.TheVariants.{At}
 use Rattle.file.specs.declared.Table.{Table}
 use Rattle.file.specs.Numbers.{on_value, numbers}
 use Rattle.file.specs.Tables.{begin, layout_of, pool_of, rows_of, functions_of, descriptors_of, entries_of, code_of}
-use Rattle.file.specs.TableLaws.{Whole, whole, low, never_at}
+use Rattle.file.proofs.TableLaws.{Whole, whole, low, never_at}
 use Rattle.file.specs.Transposed.{column_length}
 use Rattle.file_writer.specs.WritesBack.{stated_inv, writes_back}
 use Rattle.file.specs.Columns.{column_of, column_at, numbers_of_table, over}

@@ -5,7 +5,7 @@ use Rattle.std.proofs.Common.{sym, ◌∙◌, ap, append_assoc, append-nil, arit
 use Rattle.seven.specs.declared.Number.TheVariants as N
 use Rattle.seven.specs.Seven.{number_at}
 use Rattle.seven.specs.Write.{form}
-use Rattle.seven.specs.Laws.{found}
+use Rattle.seven.proofs.Laws.{found}
 use Rattle.file.specs.declared.Reading.{Reading}
 use Rattle.file.specs.declared.Reading.TheVariants.{At, Stopped}
 use Rattle.file.specs.declared.Run.TheVariants as R

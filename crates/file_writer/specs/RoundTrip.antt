@@ -10,12 +10,12 @@ use Rattle.seven.specs.declared.Number.{Number}
 use Rattle.seven.specs.declared.Number.TheVariants as N
 use Rattle.seven.specs.Seven.{number_at, Bytes}
 use Rattle.seven.specs.Write.{form}
-use Rattle.seven.specs.Laws.{found, Stands, stands}
+use Rattle.seven.proofs.Laws.{found, Stands, stands}
 use Rattle.file.specs.declared.Run.{Run}
 use Rattle.file.specs.declared.Run.TheVariants as R
 use Rattle.file.specs.Numbers.{on_number, on_value, run_of, numbers}
 use Rattle.file.specs.Columns.{column_of}
-use Rattle.file.specs.TableLaws.{no_bad, no_early}
+use Rattle.file.proofs.TableLaws.{no_bad, no_early}
 use Rattle.file.specs.Written.{forms, row_at, rows_from, table_numbers, numbers_in, file_of}
 
 -- every number of a list has a form

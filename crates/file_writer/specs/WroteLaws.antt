@@ -7,7 +7,7 @@ use Rattle.std.proofs.Math.Seq.{drop-append-add}
 use Rattle.std.proofs.lemmas.Bool.{lt-leb, eqb-false}
 use Rattle.seven.specs.declared.Put.{Put}
 use Rattle.seven.specs.declared.Put.TheVariants.{After, NoRoom}
-use Rattle.seven.specs.Forms.{by_test}
+use Rattle.seven.proofs.Forms.{by_test}
 use Rattle.seven.specs.Write.{form, laid, written}
 use Rattle.file_writer.specs.declared.Wrote.{Wrote}
 use Rattle.file_writer.specs.declared.Wrote.TheVariants as W

@@ -11,7 +11,7 @@ use Rattle.seven.specs.declared.Put.{Put}
 use Rattle.seven.specs.declared.Put.TheVariants.{After, NoRoom}
 use Rattle.seven.specs.Seven.{number_at, first, second, third, Bytes}
 use Rattle.seven.specs.Write.{form, laid, written}
-use Rattle.seven.specs.Forms.{by_test, by_size, one, two, three, form_one, form_two, form_three, two_form, three_form}
+use Rattle.seven.proofs.Forms.{by_test, by_size, one, two, three, form_one, form_two, form_three, two_form, three_form}
 
 -- the form of a number, wherever it stands, reads as the number, at the place after it
 pub found : (before after : List ℕ) (n : ℕ) → n < 65536 →

@@ -5,8 +5,8 @@ use Rattle.std.proofs.Common.{sym, ◌∙◌, ap, arith, mul-zero, ltb-true, ltb
 use Rattle.seven.specs.declared.Number.{Number}
 use Rattle.seven.specs.declared.Number.TheVariants as N
 use Rattle.seven.specs.Seven.{number_at, Bytes}
-use Rattle.seven.specs.Forms.{by_test}
-use Rattle.seven.specs.Laws.{Stands, stands}
+use Rattle.seven.proofs.Forms.{by_test}
+use Rattle.seven.proofs.Laws.{Stands, stands}
 use Rattle.file.specs.declared.Reading.{Reading}
 use Rattle.file.specs.declared.Reading.TheVariants.{At, Stopped}
 use Rattle.file.specs.declared.Run.{Run}
