@@ -1,11 +1,11 @@
 -- 01's file of 14 bytes, and what becomes of it where it is cut, goes on, or has a bad number: the definition computes.
 -- Assumes nothing.
-use Rattle.std.specs.Prelude.{ℕ, ◌≡◌, refl, List, [], ◌∷◌, ◌++◌, take, set}
+use Rattle.std.specs.Prelude.{ℕ, ◌≡◌, refl, List, [], ◌∷◌, ◌++◌, take}
 use Rattle.file.specs.Tables.{after_run, halted, on_count, counted, table_of, begin, pool_of, rows_of, functions_of, descriptors_of, entries_of, code_of, code_end, end_of, layout_of}
 use Rattle.seven.specs.Seven.{number_at, first, second, third}
 use Rattle.file.specs.Numbers.{run_of, numbers}
 use Rattle.file.specs.Columns.{column_of, column_at, numbers_of_table}
-use Rattle.file.specs.Stated.{Stated, states, refuses, columns, stated, stated_by, bench_of, tables_in}
+use Rattle.file.specs.Stated.{states, refuses, columns, stated, stated_by, bench_of, tables_in}
 
 -- "File `00 00 01 01 00 01 00 02 00 01 01 02 05 88`"
 abbrev pub fourteen : List ℕ

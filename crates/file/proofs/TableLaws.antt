@@ -1,7 +1,7 @@
 -- A table that was read to its end: where its count stood, that it is within its limit, and where its rows end.
 -- Assumes nothing.
-use Rattle.std.specs.Prelude.{ℕ, zero, suc, ◌+◌, ◌-◌, ◌*◌, ◌<◌, ◌≤◌, ◌≡◌, refl, List, ◌∷◌, Bool, true, false, cond, length, ltb}
-use Rattle.std.proofs.Common.{sym, ◌∙◌, ap, arith, mul-zero, ltb-true, ltb-false}
+use Rattle.std.specs.Prelude.{ℕ, zero, suc, ◌+◌, ◌-◌, ◌*◌, ◌≤◌, ◌≡◌, refl, List, ◌∷◌, length, ltb}
+use Rattle.std.proofs.Common.{ap, arith, mul-zero, ltb-false}
 use Rattle.seven.specs.declared.Number.{Number}
 use Rattle.seven.specs.declared.Number.TheVariants as N
 use Rattle.seven.specs.Seven.{number_at, Bytes}
@@ -12,7 +12,6 @@ use Rattle.file.specs.declared.Reading.TheVariants.{At, Stopped}
 use Rattle.file.specs.declared.Run.{Run}
 use Rattle.file.specs.declared.Run.TheVariants as R
 use Rattle.file.specs.declared.Table.{Table}
-use Rattle.file.specs.declared.Layout.{Layout}
 use Rattle.file.specs.Numbers.{on_number, on_value, run_of, numbers}
 use Rattle.file.specs.Tables.{after_run, halted, on_count, counted, table_of, begin, code_end, layout_of, pool_of, rows_of, functions_of, descriptors_of, entries_of, code_of, end_of}
 
