@@ -1,13 +1,13 @@
--- What the check of the rows means: it decides exactly, and rising ids are in strict order.
+-- What the check of the rows means: it decides exactly, and rising ids are in strict order; what a fault means: proofs/Laws.antt.
 -- Assumes nothing.
 use Rattle.std.specs.Prelude.{ℕ, zero, suc, ◌≤◌, ◌<◌, ◌≡◌, refl, ◌⊎◌, Bool, true, false, ◌||◌, List, ltb, length, get_or}
 use Rattle.std.proofs.Common.{le_of_eq, le_of_lt, eq-or-lt_of_le, not-suc-le-zero, le_of_suc-le-suc, arith, true≢false}
 use Rattle.std.proofs.Math.Path.{ap}
 use Rattle.std.proofs.Math.Logic.{inl, inr, ⊎_elim}
 use borrow.Author.Tests.{ltb-true, ltb-false, lt-ltb, le-ltb}
-use Rattle.codes.specs.First.{First, None, row_means, nowhere_means, row_if_lem, nowhere_if}
+use Rattle.codes.specs.First.{None, nowhere_means, nowhere_if}
 use Rattle.codes.specs.Rows.{low_at, faulty, order_of, rows_of}
-use Rattle.codes.specs.declared.Order.TheVariants.{Rises, Fault}
+use Rattle.codes.specs.declared.Order.TheVariants.{Rises}
 use Rattle.codes.specs.declared.Place.{Place}
 use Rattle.codes.specs.declared.Place.TheVariants.{Row, Nowhere}
 
@@ -57,10 +57,6 @@ module _ (ids flags : List ℕ) where
   rises_by (Row k) e = absurd (let z : ◌≡◌ {A = ℕ} 0 1 = cc in omega arith)
   rises_by Nowhere e = refl
 
-  fault_by : (k : ℕ) (p : Place) → order_of p ≡ Fault k → p ≡ Row k
-  fault_by k (Row j) e = let z : j ≡ k = cc in ap Row z
-  fault_by k Nowhere e = absurd (let z : ◌≡◌ {A = ℕ} 0 1 = cc in omega arith)
-
   -- no fault: no row is faulty
   pub rises_none : rows_of ids flags ≡ Rises → None (faulty ids flags) (length ids)
   unfolding rows_of
@@ -69,15 +65,6 @@ module _ (ids flags : List ℕ) where
   pub none_rises : None (faulty ids flags) (length ids) → rows_of ids flags ≡ Rises
   unfolding rows_of
   none_rises n = ap order_of (nowhere_if _ _ n)
-
-  -- a fault at row k: row k is faulty and no earlier row is
-  pub fault_means : (k : ℕ) → rows_of ids flags ≡ Fault k → First (faulty ids flags) (length ids) k
-  unfolding rows_of
-  fault_means k e = row_means _ _ _ (fault_by k _ e)
-
-  pub fault_if : (k : ℕ) → First (faulty ids flags) (length ids) k → rows_of ids flags ≡ Fault k
-  unfolding rows_of
-  fault_if k f = ap order_of (row_if_lem _ _ _ f)
 
   -- the rows rise exactly where each id is above its predecessor's and each flag is at most 1
   pub rises_means : rows_of ids flags ≡ Rises → Rising ids flags

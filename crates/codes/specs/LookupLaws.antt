@@ -1,17 +1,16 @@
--- What a place means, and that halving, with hints or without, finds the row that reading row after row finds.
+-- What a place means, and that halving finds the row that reading row after row finds; with hints: proofs/LookupLaws.antt.
 -- Assumes nothing.
-use Rattle.std.specs.Prelude.{ℕ, zero, suc, ◌+◌, ◌-◌, ◌/◌, ◌%◌, ◌^◌, ◌≤◌, ◌<◌, ◌≡◌, refl, List, length, get_or}
+use Rattle.std.specs.Prelude.{ℕ, zero, suc, ◌+◌, ◌-◌, ◌/◌, ◌^◌, ◌≤◌, ◌<◌, ◌≡◌, refl, List, length, get_or}
 use Rattle.std.proofs.Common.{not-suc-le-zero, pow-suc, arith, ◌∙◌, sym}
 use Rattle.std.proofs.Math.Nat.{pow-zero}
-use Rattle.std.proofs.Math.Decide.{dec_lt, ℕ_discrete}
+use Rattle.std.proofs.Math.Decide.{dec_lt}
 use Rattle.std.proofs.Math.Path.{ap}
 use borrow.Author.Tests.{lt-ltb, le-ltb, le-leb, lt-leb, eqb-true, eqb-false, eq-eqb, ne_eqb}
 use Rattle.codes.specs.First.{row_means, nowhere_means, row_if_lem, nowhere_if}
 use Rattle.codes.specs.Rows.{rows_of}
-use Rattle.codes.specs.Lookup.{has_id, place_of, row_if, half_of, halve, halved_of, entry_at, entry_of, looked_up, or_else, hinted_of, hinted_up}
+use Rattle.codes.specs.Lookup.{has_id, place_of, row_if, half_of, halve, halved_of, entry_at, entry_of, looked_up}
 use Rattle.codes.specs.Laws.{rising_order, rising_le}
 use Rattle.codes.specs.declared.Order.TheVariants.{Rises}
-use Rattle.codes.specs.declared.Place.{Place}
 use Rattle.codes.specs.declared.Place.TheVariants.{Row, Nowhere}
 
 module _ (ids : List ℕ) (id : ℕ) where
@@ -55,19 +54,6 @@ module _ (ids : List ℕ) (id : ℕ) where
   pub row_past : (k : ℕ) → length ids ≤ k → row_if ids id k ≡ Nowhere
   unfolding row_if
   row_past k h = rw (le-ltb k (length ids) h)
-
-  -- what a hint gives: its row, or the halving
-  pub hinted_here : (hints : List ℕ) (k : ℕ) → k ≡ get_or hints (id % 8192) 0 → k < length ids → get_or ids k 0 ≡ id → hinted_of hints ids id ≡ Row k
-  unfolding hinted_of
-  hinted_here hints k w h e = ap (λ (j : ℕ). or_else (row_if ids id j) (halved_of ids id)) (sym w) ∙ ap (λ (p : Place). or_else p (halved_of ids id)) (row_here k h e)
-
-  pub hinted_other : (hints : List ℕ) (k : ℕ) → k ≡ get_or hints (id % 8192) 0 → k < length ids → (get_or ids k 0 ≡ id → ⊥) → hinted_of hints ids id ≡ halved_of ids id
-  unfolding hinted_of
-  hinted_other hints k w h e = ap (λ (j : ℕ). or_else (row_if ids id j) (halved_of ids id)) (sym w) ∙ ap (λ (p : Place). or_else p (halved_of ids id)) (row_other k h e)
-
-  pub hinted_past : (hints : List ℕ) (k : ℕ) → k ≡ get_or hints (id % 8192) 0 → length ids ≤ k → hinted_of hints ids id ≡ halved_of ids id
-  unfolding hinted_of
-  hinted_past hints k w h = ap (λ (j : ℕ). or_else (row_if ids id j) (halved_of ids id)) (sym w) ∙ ap (λ (p : Place). or_else p (halved_of ids id)) (row_past k h)
 
   -- one turn of the halving
   pub halve_turn : (turns lo size : ℕ) → 1 < size → halve (suc turns) ids id lo size ≡ halve turns ids id (half_of ids id lo size) (size - size / 2)
@@ -173,22 +159,3 @@ module _ (ids flags : List ℕ) (rises : rows_of ids flags ≡ Rises) (id : ℕ)
   pub looked_up_lem : (counts : List ℕ) → looked_up ids counts flags id ≡ entry_of ids counts flags id
   unfolding looked_up entry_of
   looked_up_lem counts = ap (entry_at counts flags) halved_place
-
-  -- a row with the id is the one that reading row after row finds: an earlier one has a smaller id
-  only_row : (k : ℕ) → k < length ids → get_or ids k 0 ≡ id → place_of ids id ≡ Row k
-  only_row k h e = place_row ids id k h e (λ j l z. omega (arith, rising_order ids flags rises j k l h))
-
-  hinted_by : (hints : List ℕ) (k : ℕ) → k ≡ get_or hints (id % 8192) 0 → Dec (k < length ids) → Dec (get_or ids k 0 ≡ id) → hinted_of hints ids id ≡ place_of ids id
-  hinted_by hints k w (no l) d = hinted_past ids id hints k w (omega arith) ∙ halved_place
-  hinted_by hints k w (yes h) (yes e) = hinted_here ids id hints k w h e ∙ sym (only_row k h e)
-  hinted_by hints k w (yes h) (no n) = hinted_other ids id hints k w h n ∙ halved_place
-
-  -- and so it is with hints, whatever they hold
-  pub hinted_place : (hints : List ℕ) → hinted_of hints ids id ≡ place_of ids id
-  hinted_place hints =
-      let k : ℕ = get_or hints (id % 8192) 0 in
-      hinted_by hints k refl (dec_lt k (length ids)) (ℕ_discrete (get_or ids k 0) id)
-
-  pub hinted_up_lem : (hints counts : List ℕ) → hinted_up hints ids counts flags id ≡ entry_of ids counts flags id
-  unfolding hinted_up entry_of
-  hinted_up_lem hints counts = ap (entry_at counts flags) (hinted_place hints)

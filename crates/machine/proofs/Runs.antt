@@ -154,6 +154,7 @@ module _ (q : PoolProgram) (stack-room room : Room) (cells : ℕ) (stacked : Sou
       (λ row e. s.sheet.calls fr.offset t.held row t.number (t.opened ∙ e))
   kept (good b s) (returns x e) = uncovered b
   kept (good b s) (ends e) = uncovered b
+  kept {d = d} closed step = elim step [ ]
 
   steps_good : (row : ℕ) → Reached q row → {c : List Frame} → Steps q (opened row ∷ []) c → Good c
   steps_good row r begins = good (nothing (reached_tame q room cells pooled row r)) (began row r)
@@ -163,15 +164,18 @@ module _ (q : PoolProgram) (stack-room room : Room) (cells : ℕ) (stacked : Sou
   stands_below : {c : List Frame} {row left : ℕ} {fr : Frame} → Below c row left → Open fr c → Stands fr
   stands_below (caller b s k m le) top = s
   stands_below (caller b s k m le) (under o) = stands_below b o
+  stands_below {fr = fr} (nothing {row = row} _) there = elim there [ ]
 
   stands_at : {c : List Frame} {fr : Frame} → Good c → Open fr c → Stands fr
   stands_at (good b s) top = s
   stands_at (good b s) (under o) = stands_below b o
+  stands_at {fr = fr} closed there = elim there [ ]
 
   -- from the function of each frame below a chain of calls leads on to the one on top
   leads : {c : List Frame} {row left : ℕ} {fr : Frame} → Below c row left → Open fr c → (h : ℕ) × Calls graph fr.row h × Reaches graph h row
   leads (caller {row = row} b s k m le) top = (row, k, same)
   leads (caller {fr = other} {row = row} b s k m le) (under o) = let r = leads b o in (r.0, r.1, reaches_on graph r.0 other.row row r.2 k)
+  leads {fr = fr} (nothing {row = row} _) there = elim there [ ]
 
   apart : {c : List Frame} {row left : ℕ} → Below c row left → (other : Frame) → Open other c → other.row ≡ row → ⊥
   apart {row = row} {left = left} b other o e =

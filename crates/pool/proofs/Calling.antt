@@ -6,13 +6,13 @@ use native.Mathlib.Omega.{arith}
 use native.Mathlib.Decide.{dec_lt}
 use native.Mathlib.Nat.{eq-or-lt_of_le}
 use mathlib.Core.Path.{◌≡◌, refl, ◌∙◌, ap, ap₂, sym, fun_ext}
-use mathlib.Core.Bool.{Bool, true, false, cond, true≢false, false≢true}
+use mathlib.Core.Bool.{true, false, cond, true≢false}
 use mathlib.Core.List.{List, [], ◌∷◌}
 use mathlib.Core.Logic.{⊎_elim}
 use lib.Dec.{ltb}
 use lib.ListN.{length, get_or, take, drop, get_or-eq_default}
 use borrow.Author.Tests.{lt-ltb, le-ltb}
-use Rattle.cells.specs.Zeros.{zeros, length_zeros, as_long, ZeroAfter}
+use Rattle.cells.specs.Zeros.{zeros, length_zeros, ZeroAfter}
 use Rattle.tables.specs.declared.Move.{Move}
 use Rattle.tables.specs.declared.TempEffect.{TempEffect}
 use Rattle.tables.specs.Set.{size_of, move_of, temp_of}
@@ -20,8 +20,7 @@ use Rattle.tables.specs.Packed.{size_in, move_in, temp_in, size_table, word_tabl
 use Rattle.tables.specs.Stored.{size_stored, move_stored, temp_stored}
 use Rattle.flow.specs.Laws.{walk_end}
 use Rattle.flow.specs.declared.starts.Decoded.{Decoded}
-use Rattle.flow.specs.Walk.{walk_by, end_of, marks_of}
-use Rattle.codes.specs.declared.Place.{Place}
+use Rattle.flow.specs.Walk.{end_of, marks_of}
 use Rattle.codes.specs.Lookup.{place_of, hinted_of}
 use Rattle.program.specs.declared.Input.{Input}
 use Rattle.program.specs.declared.Room.{Room}
@@ -34,13 +33,12 @@ use Rattle.buffers.specs.Tread.{Temps, Opens, treads, tread_of}
 use Rattle.buffers.specs.declared.Way.{Way}
 use Rattle.buffers.specs.declared.Tread.{Tread}
 use Rattle.buffers.specs.declared.Used.{Used}
-use Rattle.buffers.specs.Walk.{entry, go, follow, used, unused, Walked, walked, walk_from, begun, turns_of, walk_of, used_of, callees_of}
+use Rattle.buffers.specs.Walk.{entry, follow, used, unused, Walked, walked, walk_from, begun, turns_of, walk_of, used_of, callees_of}
 use Rattle.buffers.proofs.Cases.{tread_end}
 use Rattle.buffers.proofs.Queue.{follow_ends, walk_done, walk_goes, walk_begun, turns_are, used_other, noted_none, begun_first}
 use Rattle.callees.specs.Callees.{temps_by, opens_by, temps_of, opens_of}
 use Rattle.callees.specs.Laws.{temps_are, opens_are}
 use Rattle.visit.specs.declared.Visited.{Visited}
-use Rattle.visit.specs.Graph.{Graph}
 use Rattle.visit.specs.Visit.{visit_of}
 use Rattle.visit.specs.Cells.{callees_in, graph_in, row_at, entry_rows}
 use Rattle.visit.specs.Laws.{same_graph}

@@ -1,12 +1,12 @@
 -- How the walk of a body ends, at any sizes and rules: with numbers exactly if decoding comes to its end and the walk does; with 22 if decoding stops or
 -- the walk finds 22; with 23 if it finds 23. It never runs out of turns, by the walk's own theorem, since each mark fits its body.
 -- Assumes nothing.
-use Prim.Native.Nat.{ℕ, ◌+◌, ◌*◌, ◌≤◌, ◌<◌}
+use Prim.Native.Nat.{ℕ, ◌+◌, ◌*◌}
 use native.Mathlib.Omega.{arith}
 use mathlib.Core.Path.{◌≡◌, refl, ap, ◌∙◌}
 use mathlib.Core.Logic.{◌⊎◌, inl, inr}
 use mathlib.Core.List.{List}
-use lib.ListN.{length, get_or}
+use lib.ListN.{length}
 use Rattle.flow.specs.declared.starts.Decoded.{Decoded}
 use Rattle.flow.specs.Walk.{walk_by, end_of, marks_of}
 use Rattle.flow.specs.Next.{body_fits}

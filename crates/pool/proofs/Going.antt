@@ -1,12 +1,12 @@
 -- The loop over the directory, over any walk of a body: what it has done up to a row, and a law for each way that a row can go.
 -- Assumes nothing.
-use Prim.Native.Nat.{ℕ, zero, suc, ◌+◌, ◌-◌, ◌*◌, ◌≤◌, ◌<◌}
+use Prim.Native.Nat.{ℕ, suc, ◌+◌, ◌-◌, ◌*◌, ◌≤◌, ◌<◌}
 use native.Mathlib.Omega.{arith}
 use native.Mathlib.Decide.{ℕ_discrete}
 use native.Mathlib.Numerals.{add-one}
 use mathlib.Core.Path.{◌≡◌, refl, ◌∙◌, ap, ap₂, sym}
-use mathlib.Core.List.{List, []}
-use lib.ListN.{length, get_or, set, take, drop, length-set, length-take, length-drop, replicate, length-replicate}
+use mathlib.Core.List.{List}
+use lib.ListN.{length, get_or, set, take, drop, length-set, length-take, length-drop, replicate}
 use lib.Seq.{get_or-set_same, get_or-set_other}
 use Rattle.cells.specs.Zeros.{zeros, zeros_are, length_zeros, any_zero}
 use Rattle.buffers.specs.declared.Used.{Used}
@@ -14,10 +14,9 @@ use Rattle.buffers.specs.Walk.{Walked, undecodable, crowded, unfinished, walked,
 use Rattle.visit.specs.Cells.{callees_in}
 use Rattle.pool.specs.declared.Verdict.{Verdict}
 use Rattle.pool.specs.declared.bodies.Ended.{Ended}
-use Rattle.pool.specs.declared.bodies.Usages.{Usages}
 use Rattle.pool.specs.Columns.{Walks, RowHolds, Listed, Cleared, Roomy, Blank, Laid, Lays}
 use Rattle.pool.specs.Pool.{weight_of, peak_of, rows_in, on_used, functions_from}
-use Rattle.pool.specs.Usages.{walks_by, Told, Recorded, IfWalked, Found}
+use Rattle.pool.specs.Usages.{walks_by, Told, IfWalked, Found}
 use Rattle.pool.proofs.Rows.{row_read, row_empty, row_stays}
 
 -- a body that is a part of the code has room where the code has

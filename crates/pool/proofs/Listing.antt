@@ -2,16 +2,15 @@
 -- Assumes nothing.
 use Prim.Native.Nat.{ℕ, zero, suc, ◌+◌, ◌-◌, ◌≤◌, ◌<◌}
 use native.Mathlib.Omega.{arith}
-use native.Mathlib.Decide.{ℕ_discrete}
 use native.Mathlib.Numerals.{add-one}
 use mathlib.Core.Path.{◌≡◌, refl, ◌∙◌, ap, sym}
 use mathlib.Core.Bool.{Bool, true, false, cond, true≢false}
 use mathlib.Core.List.{List, [], ◌∷◌, ◌++◌}
 use mathlib.Core.Logic.{◌⊎◌, inl, inr, ⊎_elim}
 use lib.Dec.{eqb}
-use lib.ListN.{length, get_or, set, take, length-set, length-take, length-append}
+use lib.ListN.{length, get_or, set, take, length-set, length-append}
 use lib.Seq.{take-suc, take-suc-set, get_or-set_other, length-take-le, get_or-take}
-use borrow.Author.Tests.{eqb-true, eqb-false, eq-eqb, ne_eqb}
+use borrow.Author.Tests.{eqb-true, eqb-false, ne_eqb}
 use Rattle.buffers.specs.Walk.{has, noted}
 use Rattle.buffers.proofs.Queue.{noted_none, noted_met, noted_new, has_here, has_later}
 use Rattle.visit.specs.Visit.{opening, none}

@@ -9,7 +9,7 @@
 use Prim.Native.Nat.{ℕ, ◌+◌, ◌*◌, ◌≤◌, ◌<◌}
 use native.Mathlib.Omega.{arith}
 use mathlib.Core.Path.{◌≡◌, refl, sym, ap, ◌∙◌}
-use mathlib.Core.Logic.{◌↔◌, ◌⊎◌, inl, inr, ⊎_elim}
+use mathlib.Core.Logic.{◌↔◌, inl, inr, ⊎_elim}
 use mathlib.Core.List.{List}
 use lib.ListN.{length, get_or}
 use Rattle.tables.specs.Set.{size_of}

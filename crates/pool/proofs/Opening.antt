@@ -7,12 +7,10 @@ use mathlib.Core.Path.{◌≡◌, refl}
 use mathlib.Core.Bool.{Bool, true, false, cond}
 use mathlib.Core.Logic.{◌⊎◌, inl, inr, ⊎_elim}
 use mathlib.Core.List.{List, [], ◌∷◌}
-use lib.Dec.{ltb, eqb}
-use lib.ListN.{length, get_or}
+use lib.Dec.{ltb}
+use lib.ListN.{length}
 use borrow.Author.Tests.{lt-ltb}
-use Rattle.tables.specs.declared.Move.{Move}
 use Rattle.tables.specs.Set.{size_of, move_of}
-use Rattle.flow.specs.Decode.{word_at}
 use Rattle.flow.specs.Walk.{marks_of}
 use Rattle.flow.specs.Next.{body_fits}
 use Rattle.codes.specs.declared.Place.{Place}

@@ -3,16 +3,14 @@
 -- Assumes nothing.
 use Prim.Native.Nat.{ℕ, ◌+◌, ◌-◌, ◌≤◌, ◌<◌}
 use native.Mathlib.Omega.{arith}
-use mathlib.Core.Path.{◌≡◌, refl, ◌∙◌, ap, ap₂, sym}
-use mathlib.Core.Bool.{Bool, true, false, cond}
+use mathlib.Core.Path.{◌≡◌, refl, ◌∙◌, ap, sym}
 use mathlib.Core.List.{List, [], ◌∷◌, ◌++◌}
-use lib.Dec.{ltb}
 use lib.ListN.{length, get_or, set, length-set}
 use lib.Seq.{get_or-set_same}
 use borrow.Author.Tests.{lt-ltb, le-ltb}
 use Rattle.buffers.specs.declared.Way.{Way}
 use Rattle.buffers.specs.Tread.{Leads}
-use Rattle.buffers.specs.Walk.{Entry, entry, Outcome, astray, full, go, raise, follow}
+use Rattle.buffers.specs.Walk.{Entry, entry, Outcome, go, raise, follow}
 use Rattle.buffers.proofs.Queue.{raise_new, raise_full, raise_kept, follow_ends, follow_astray, follow_goes, follow_forks_full, follow_forks_go}
 use Rattle.pool.specs.declared.walk.Raised.{Raised}
 use Rattle.pool.specs.declared.walk.Turn.{Turn}

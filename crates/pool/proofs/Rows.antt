@@ -5,11 +5,11 @@ use Prim.Native.Nat.{ℕ, zero, suc, ◌+◌, ◌-◌, ◌*◌, ◌≤◌, ◌<�
 use native.Mathlib.Omega.{arith}
 use mathlib.Core.Path.{◌≡◌, refl, ◌∙◌, ap, ap₂, sym}
 use mathlib.Core.List.{List, [], ◌∷◌, ◌++◌}
-use lib.ListN.{length, get_or, take, drop, get_or-append, length-append, length-drop}
+use lib.ListN.{length, get_or, take, drop, get_or-append, length-drop}
 use lib.Seq.{length-take-le, get_or-take, get_or-drop, get_or-append-add}
-use Rattle.cells.specs.Zeros.{zeros, zero_at, length_zeros, any_zero}
+use Rattle.cells.specs.Zeros.{zeros}
 use Rattle.buffers.specs.declared.Used.{Used}
-use Rattle.buffers.specs.Walk.{Walked, has}
+use Rattle.buffers.specs.Walk.{Walked}
 use Rattle.visit.specs.Cells.{callees_in}
 use Rattle.visit.specs.Laws.{row_holds, callees_are, same_cells}
 use Rattle.pool.specs.Columns.{Walks, Listed, Blank, Laid, Lays}

@@ -1,20 +1,20 @@
 -- One body: how its decoding ends and its walk make what the definition says of it, over any rules; and the directory's loop, row after row.
 -- Assumes nothing.
-use Prim.Native.Nat.{ℕ, zero, suc, ◌+◌, ◌-◌, ◌*◌, ◌≤◌, ◌<◌}
+use Prim.Native.Nat.{ℕ, ◌+◌, ◌*◌, ◌≤◌}
 use native.Mathlib.Omega.{arith}
 use mathlib.Core.Path.{◌≡◌, refl, ◌∙◌, ap, sym}
 use mathlib.Core.List.{List}
-use lib.ListN.{length, get_or, set, take, drop, length-take, length-drop}
+use lib.ListN.{length, set}
 use Rattle.cells.specs.Zeros.{zeros, zeros_are, length_zeros, any_zero}
 use Rattle.flow.specs.declared.starts.Decoded.{Decoded}
 use Rattle.flow.specs.Walk.{walk_by, end_of, mark_all, marks_of}
 use Rattle.flow.specs.Next.{marks_fit, marks_are, body_fits}
 use Rattle.buffers.specs.declared.Used.{Used}
 use Rattle.buffers.specs.Tread.{Temps, Opens, tread_of}
-use Rattle.buffers.specs.Walk.{Walked, undecodable, crowded, unfinished, walked, begun, walk_of, used_of, callees_of}
+use Rattle.buffers.specs.Walk.{Walked, undecodable, crowded, unfinished, walked, begun, walk_of, used_of}
 use Rattle.buffers.proofs.Queue.{begun_is}
 use Rattle.buffers.proofs.Theorems.{weight_small}
-use Rattle.pool.specs.Columns.{Walks, RowHolds, Fitting, Cleared, Roomy, Lays}
+use Rattle.pool.specs.Columns.{Walks, Fitting, Lays}
 use Rattle.pool.specs.Pool.{on_decoded, body_walk}
 use Rattle.pool.proofs.Walking.{walks_astray}
 

@@ -1,15 +1,14 @@
 -- One tread of the code is the definition's, by the cases of buffers: an instruction that is plain, and any other.
 -- Assumes nothing.
-use Prim.Native.Nat.{ℕ, ◌+◌, ◌-◌, ◌≤◌, ◌<◌}
-use native.Mathlib.Omega.{arith}
-use mathlib.Core.Path.{◌≡◌, refl, ◌∙◌, ap, ap₂, sym}
+use Prim.Native.Nat.{ℕ, ◌+◌, ◌-◌, ◌<◌}
+use mathlib.Core.Path.{◌≡◌, refl, ◌∙◌, ap, sym}
 use mathlib.Core.Bool.{true}
 use mathlib.Core.List.{List}
 use lib.ListN.{length, get_or}
 use Rattle.tables.specs.declared.TempEffect.{TempEffect}
-use Rattle.tables.specs.declared.TempEffect.TheVariants.{Keeps, Borrows, GivesBack}
+use Rattle.tables.specs.declared.TempEffect.TheVariants.{GivesBack}
 use Rattle.tables.specs.declared.Move.{Move}
-use Rattle.tables.specs.Packed.{turns, move_in, temp_in, plain_in, effect_in}
+use Rattle.tables.specs.Packed.{move_in, temp_in, plain_in, effect_in}
 use Rattle.tables.specs.Stored.{plain_fixed}
 use Rattle.flow.specs.declared.Flow.{Flow}
 use Rattle.flow.specs.declared.Flow.TheVariants.{Next, Jump, Branch, Return}
@@ -18,7 +17,6 @@ use Rattle.flow.specs.Decode.{operands_at, flow_of, moved, target_of}
 use Rattle.flow.specs.Next.{flow_next}
 use Rattle.codes.specs.declared.Place.{Place}
 use Rattle.buffers.specs.declared.Way.{Way}
-use Rattle.buffers.specs.declared.Tread.{Tread}
 use Rattle.buffers.specs.Tread.{Temps, Opens, sum_past, on_target, flowing, bounded, treads, tread_of}
 use Rattle.buffers.proofs.Cases.{flowing_next, flowing_return, tread_acts, tread_bounded, tread_opens}
 use Rattle.callees.specs.Callees.{temps_by, opens_by}

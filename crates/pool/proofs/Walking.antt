@@ -2,21 +2,21 @@
 -- it gives from the start. A law for each way that a turn can go. The turns that are left are as many as the definition has left: what can still be
 -- raised bounds them.
 -- Assumes nothing.
-use Prim.Native.Nat.{ℕ, zero, suc, ◌+◌, ◌-◌, ◌*◌, ◌≤◌, ◌<◌}
+use Prim.Native.Nat.{ℕ, zero, suc, ◌+◌, ◌*◌, ◌≤◌, ◌<◌}
 use native.Mathlib.Omega.{arith}
 use mathlib.Core.Path.{◌≡◌, refl, ◌∙◌, ap, ap₂, sym}
 use mathlib.Core.Bool.{Bool, true, false, cond}
-use mathlib.Core.List.{List, [], ◌∷◌, ◌++◌}
+use mathlib.Core.List.{List, [], ◌∷◌}
 use lib.Dec.{ltb}
 use lib.ListN.{length, get_or, take}
-use borrow.Author.Tests.{ltb-true, ltb-false, lt-ltb, le-ltb}
-use Rattle.cells.specs.Zeros.{zeros, zero_at, length_zeros, any_zero}
+use borrow.Author.Tests.{ltb-true, ltb-false}
+use Rattle.cells.specs.Zeros.{zeros, length_zeros, any_zero}
 use Rattle.buffers.specs.declared.Way.{Way}
 use Rattle.buffers.specs.declared.Tread.{Tread}
 use Rattle.buffers.specs.declared.Used.{Used}
 use Rattle.buffers.specs.Tread.{Leads, Bounded}
-use Rattle.buffers.specs.Walk.{Entry, entry, Outcome, astray, full, go, follow, Usage, noted, has, used, unused, Walked, undecodable, crowded, unfinished, walked, walk_from, begun, turns_of, walk_of, slack, used_of, callees_of}
-use Rattle.buffers.proofs.Queue.{walk_done, walk_stale, walk_astray, walk_full, walk_goes, walk_begun, turns_are, used_larger, used_other, length_begun, begun_first, slack_begun}
+use Rattle.buffers.specs.Walk.{Entry, entry, Outcome, astray, full, go, follow, Usage, noted, used, unused, Walked, walked, walk_from, begun, turns_of, walk_of, slack, used_of, callees_of}
+use Rattle.buffers.proofs.Queue.{walk_done, walk_stale, walk_astray, walk_full, walk_goes, walk_begun, turns_are, length_begun, begun_first, slack_begun}
 use Rattle.buffers.proofs.Turns.{follow_less}
 use Rattle.pool.specs.declared.walk.Turn.{Turn}
 use Rattle.pool.specs.declared.walk.First.{First}

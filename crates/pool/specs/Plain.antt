@@ -3,7 +3,7 @@
 use Rattle.std.specs.Prelude.{ℕ, ◌≡◌, true, false, List, eqb}
 use Rattle.std.proofs.Common.{◌∙◌, sym}
 use Rattle.tables.specs.Packed.{turns, word_table, plain_in}
-use Rattle.tables.specs.Laws.{Plain, plain}
+use Rattle.tables.specs.Laws.{plain}
 use Rattle.tables.specs.Stored.{plain_stored}
 
 abbrev pub PlainGoesOn : List ℕ → Type 0

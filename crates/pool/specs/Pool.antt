@@ -5,7 +5,6 @@ use Rattle.cells.specs.Zeros.{zeros}
 use Rattle.tables.specs.Set.{size_of}
 use Rattle.flow.specs.declared.starts.Decoded.{Decoded}
 use Rattle.flow.specs.Walk.{walk_by, end_of, marks_of}
-use Rattle.codes.specs.declared.Place.{Place}
 use Rattle.codes.specs.Lookup.{place_of}
 use Rattle.program.specs.declared.Input.{Input}
 use Rattle.program.specs.declared.Room.{Room}

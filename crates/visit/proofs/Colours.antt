@@ -17,8 +17,8 @@ use Rattle.visit.specs.declared.Visited.TheVariants.{Fine}
 use Rattle.visit.specs.declared.State.{State}
 use Rattle.visit.specs.Graph.{Graph, Calls, Reaches, same, more}
 use Rattle.visit.specs.Visit.{callee_of, opening, total_of, none}
-use Rattle.visit.specs.Answers.{callee_new}
-use Rattle.visit.specs.Exact.{independent}
+use Rattle.visit.proofs.Answers.{callee_new}
+use Rattle.visit.proofs.Exact.{independent}
 use Rattle.visit.specs.Marks.{open_in, ClosedIn, unopened, opened, closed, fresh, Kept, After, AtRest}
 
 -- a mark that is not 0 opens nothing anew

@@ -15,7 +15,7 @@ use Rattle.visit.specs.declared.Visit.{Visit}
 use Rattle.visit.specs.Graph.{Graph}
 use Rattle.visit.specs.Visit.{callee_of, largest_of, total_of, met_of, none, visit_of}
 use Rattle.visit.specs.Cells.{row_at, entry_rows}
-use Rattle.visit.specs.Answers.{Failed, callee_unknown, callee_new, largest_next, largest_stops}
+use Rattle.visit.proofs.Answers.{Failed, callee_unknown, callee_new, largest_next, largest_stops}
 use Rattle.visit.specs.Marks.{answered, Visits, AtRest, Meets}
 use Rattle.visit.proofs.Colours.{two, met_closed}
 

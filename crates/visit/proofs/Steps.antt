@@ -17,9 +17,9 @@ use Rattle.visit.specs.declared.Visit.{Visit}
 use Rattle.visit.specs.Graph.{Graph, Among, Calls}
 use Rattle.visit.specs.Visit.{onward, callee_of, largest_of, sum_of, closes, total_of, met_of, none}
 use Rattle.visit.specs.Cells.{at_cell, callees_from, callees_in, graph_in}
-use Rattle.visit.specs.Answers.{Failed, cycled, passed, fine_is, fine_not_failed, onward_stops, closes_over, closes_within, callee_unknown, callee_open, callee_new, largest_next, largest_stops}
+use Rattle.visit.proofs.Answers.{Failed, cycled, passed, fine_is, fine_not_failed, onward_stops, closes_over, closes_within, callee_unknown, callee_open, callee_new, largest_next, largest_stops}
 use Rattle.visit.specs.Fuel.{total_step}
-use Rattle.visit.specs.Exact.{independent}
+use Rattle.visit.proofs.Exact.{independent}
 use Rattle.visit.specs.Marks.{open_in, ClosedIn, opened, closed, answered, Kept, After, Visits, Walks}
 use Rattle.visit.proofs.Colours.{open_not, two, opened_open, after_itself, after_both, closed_self, closed_total, closed_after, met_closed}
 

@@ -9,7 +9,8 @@ use native.Mathlib.Omega.{arith}
 use borrow.Author.Count.{below_more}
 use borrow.Author.Rules.{rules}
 use lib.ListN.{get_or, length}
-use Rattle.codes.specs.Laws.{faulty_id, faulty_flag, sound_row, fault_if, none_rises}
+use Rattle.codes.specs.Laws.{faulty_id, faulty_flag, sound_row, none_rises}
+use Rattle.codes.proofs.Laws.{fault_if}
 use Rattle.codes.proofs.check_rows.Invariants.{Passed}
 use Rattle.codes.proofs.check_rows.Goals as goal
 

@@ -4,7 +4,7 @@ use Prim.Native.Nat.{ℕ}
 use native.Mathlib.Omega.{arith}
 use mathlib.Core.Path.{◌∙◌, ap, sym}
 use lib.ListN.{get_or}
-use Rattle.codes.specs.LookupLaws.{hinted_here, hinted_other, hinted_past}
+use Rattle.codes.proofs.LookupLaws.{hinted_here, hinted_other, hinted_past}
 use Rattle.codes.proofs.find_hinted.Goals as goal
 use Rattle.codes.proofs.find_hinted.Goals.{then-row-ids+else-ids-row, else-row-ids}
 

@@ -1,16 +1,9 @@
 -- `pool::fields` meets its contract, case by case.
 -- Assumes nothing.
 use Prim.Native.Nat.{ℕ}
-use mathlib.Core.Path.{◌≡◌, ◌∙◌, sym, ap, ap₂}
+use mathlib.Core.Path.{◌∙◌, sym, ap, ap₂}
 use Rattle.answers.specs.Fields.{fields_by}
 use Rattle.pool.specs.Pool.{fields_of}
-use borrow.Author.Rules.{rules}
-use Rattle.pool.proofs.fields.Reads as reads
-use Rattle.pool.proofs.fields.Lts as lts
-use Rattle.answers.proofs.accepted.Reads as accepted-reads
-use Rattle.answers.proofs.fields_by.Reads as fields-by-reads
-use Rattle.answers.proofs.of_refusal.Reads as of-refusal-reads
-use Rattle.pool.proofs.wide.Reads as wide-reads
 use Rattle.pool.proofs.fields.Goals as goal
 
 -- src/lib.rt:217:1
@@ -26,7 +19,7 @@ returns-in-Accepted c = c.accepted.ensures ∙ sym (ap fields_of c.in-Accepted.i
 -- src/lib.rt:217:1
 pub returns-in-ExceedsDeclaredPool : goal.returns-in-ExceedsDeclaredPool
 unfolding fields_of
-returns-in-ExceedsDeclaredPool c = let v = c.verdict-in-ExceedsDeclaredPool-1.given.0 in c.fields_by.ensures ∙ ap₂ (λ (x y : ℕ). fields_by 20 v.0 v.1.0 x y 0) c.wide.ensures c.wide-in-ExceedsDeclaredPool.ensures ∙ sym (ap fields_of c.in-ExceedsDeclaredPool.is)
+returns-in-ExceedsDeclaredPool c =  c.fields_by.ensures ∙ ap₂ (λ (x y : ℕ). fields_by 20 c.in-ExceedsDeclaredPool.function c.in-ExceedsDeclaredPool.offset x y 0) c.wide.ensures c.wide-in-ExceedsDeclaredPool.ensures ∙ sym (ap fields_of c.in-ExceedsDeclaredPool.is)
 
 -- src/lib.rt:217:1
 pub returns-in-RecursiveCallGraph : goal.returns-in-RecursiveCallGraph

@@ -1,10 +1,6 @@
 -- `pool::judged` meets its contract, by how the bodies ended.
 -- Assumes nothing.
 use Rattle.pool.proofs.Calling.{judged_walked, judged_undecodable, judged_full}
-use borrow.Author.Rules.{rules}
-use Rattle.pool.proofs.judged.Reads as reads
-use Rattle.pool.proofs.judged.Lts as lts
-use Rattle.pool.proofs.visited.Reads as visited-reads
 use Rattle.pool.proofs.judged.Goals as goal
 
 -- src/lib.rt:65:1

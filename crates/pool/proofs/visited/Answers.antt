@@ -1,12 +1,6 @@
 -- `pool::visited` meets its contract, by what the visit answers.
 -- Assumes nothing.
 use Rattle.pool.proofs.Calling.{seen_fine, seen_cycle, seen_over}
-use borrow.Author.Rules.{rules}
-use Rattle.pool.proofs.visited.Reads as reads
-use Rattle.pool.proofs.visited.Lts as lts
-use Rattle.cells.proofs.u16_at.Reads as u16-at-reads
-use Rattle.cells.proofs.usize_at.Reads as usize-at-reads
-use Rattle.visit.proofs.visit_entries.Reads as visit-entries-reads
 use Rattle.pool.proofs.visited.Goals as goal
 
 -- src/lib.rt:41:1

@@ -2,7 +2,8 @@
 -- Assumes nothing.
 use mathlib.Core.Path.{◌∙◌, sym}
 use Rattle.program.specs.Refusals.{contents_of}
-use Rattle.program.specs.Taken.{input_count, input_many, input_room, input_short, input_rest, code_limit}
+use Rattle.program.proofs.Taken.{input_count, input_many, input_room, input_short, input_rest}
+use Rattle.program.specs.Taken.{code_limit}
 use Rattle.program.proofs.ordered.Goals as goal
 use Rattle.program.proofs.ordered.Goals.{then-too_many-via-then-too_many, then-too_many-via-else-too_many+then-many, then-scratch_short-via-then-scratch_short, then-scratch_short-via-else-scratch_short+then-short}
 

@@ -1,13 +1,6 @@
 -- `pool::tread::flows` meets its contract: each way on is a case of `flowing`.
 -- Assumes nothing.
 use Rattle.pool.proofs.Treading.{flows_next, flows_jump, flows_branch, flows_return}
-use borrow.Author.Rules.{rules}
-use Rattle.pool.proofs.tread.flows.Reads as reads
-use Rattle.pool.proofs.tread.flows.Lts as lts
-use Rattle.flow.proofs.branch_target.Reads as branch-target-reads
-use Rattle.flow.proofs.flow_of.Reads as flow-of-reads
-use Rattle.pool.proofs.tread.fork_to.Reads as fork-to-reads
-use Rattle.pool.proofs.tread.jump_to.Reads as jump-to-reads
 use Rattle.pool.proofs.tread.flows.Goals as goal
 
 -- src/tread.rt:77:1

@@ -1,11 +1,8 @@
 -- `pool::tread::jump_to` meets its contract, by the target.
 -- Assumes nothing.
-use mathlib.Core.Path.{◌≡◌, sym, ap}
+use mathlib.Core.Path.{sym, ap}
 use Rattle.buffers.specs.declared.Way.{Way}
 use Rattle.buffers.specs.Tread.{on_target}
-use borrow.Author.Rules.{rules}
-use Rattle.pool.proofs.tread.jump_to.Reads as reads
-use Rattle.pool.proofs.tread.jump_to.Lts as lts
 use Rattle.pool.proofs.tread.jump_to.Goals as goal
 
 -- src/tread.rt:57:1

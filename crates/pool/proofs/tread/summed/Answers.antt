@@ -1,13 +1,9 @@
 -- `pool::tread::summed` meets its contract: each temp effect is a case of `sum_past`.
 -- Assumes nothing.
-use Prim.Native.Nat.{ℕ}
-use mathlib.Core.Path.{◌≡◌, sym, ap}
+use mathlib.Core.Path.{sym, ap}
 use Rattle.tables.specs.declared.TempEffect.{TempEffect}
 use Rattle.buffers.specs.Tread.{sum_past}
 use Rattle.pool.proofs.Treading.{sum_none}
-use borrow.Author.Rules.{rules}
-use Rattle.pool.proofs.tread.summed.Reads as reads
-use Rattle.pool.proofs.tread.summed.Lts as lts
 use Rattle.pool.proofs.tread.summed.Goals as goal
 
 -- src/tread.rt:40:17

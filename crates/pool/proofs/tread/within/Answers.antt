@@ -1,12 +1,8 @@
 -- `pool::tread::within` meets its contract, by the sum and the pool.
 -- Assumes nothing.
-use mathlib.Core.Path.{◌≡◌, sym}
+use mathlib.Core.Path.{sym}
 use native.Mathlib.Omega.{arith}
 use Rattle.buffers.proofs.Cases.{bounded_over, bounded_within}
-use borrow.Author.Rules.{rules}
-use Rattle.pool.proofs.tread.within.Reads as reads
-use Rattle.pool.proofs.tread.within.Lts as lts
-use Rattle.pool.proofs.tread.wide16.Reads as wide16-reads
 use Rattle.pool.proofs.tread.within.Goals as goal
 
 -- src/tread.rt:52:9

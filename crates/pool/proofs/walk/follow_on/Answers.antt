@@ -1,25 +1,12 @@
 -- `pool::walk::follow_on` meets its contract: each way on is a case of `follow`.
 -- Assumes nothing.
-use mathlib.Core.Path.{◌≡◌, ◌∙◌}
-use Prim.Native.Nat.{ℕ, ◌<◌, ◌≤◌}
 use native.Mathlib.Omega.{arith}
-use lib.ListN.{length}
-use Rattle.buffers.specs.declared.Way.{Way}
-use Rattle.buffers.specs.Tread.{Leads}
-use Rattle.pool.specs.Columns.{Ready}
 use Rattle.pool.proofs.Raising.{leads_goes, leads_forks, turn_ends, turn_astray, turn_goes, turn_forks, turn_raises, alone, ready_alone}
-use borrow.Author.Rules.{rules}
-use Rattle.pool.proofs.walk.follow_on.Reads as reads
-use Rattle.pool.proofs.walk.follow_on.Lts as lts
-use Rattle.pool.proofs.walk.raise_both.Reads as raise-both-reads
-use Rattle.pool.proofs.walk.raise_one.Reads as raise-one-reads
-use Rattle.pool.proofs.walk.straight_on.Reads as straight-on-reads
-use Rattle.pool.proofs.walk.turned.Reads as turned-reads
 use Rattle.pool.proofs.walk.follow_on.Goals as goal
 
 -- src/walk.rt:156:17
 pub straight_on-requires : goal.straight_on-requires
-straight_on-requires c = let l = leads_goes _ _ _ _ _ c.in-Goes.is c.requires.1 in (ready_alone _ _ _ _ _ c.if-count-eq0.true c.requires.0, (l.0, omega (arith, l.1)))
+straight_on-requires c = let l = leads_goes _ _ _ _ _ c.in-Goes.is c.requires.leads in record { ready = ready_alone _ _ _ _ _ c.if-count-eq0.true c.requires.ready; to_in_bounds = (l.0, omega (arith, l.1)) }
 
 -- src/walk.rt:156:17
 pub returns-then-count-eq0 : goal.returns-then-count-eq0
@@ -27,15 +14,15 @@ returns-then-count-eq0 c = let a = c.args in turn_goes a.numbers.now a.places.no
 
 -- src/walk.rt:158:20
 pub raise_one-requires : goal.raise_one-requires
-raise_one-requires c = let l = leads_goes _ _ _ _ _ c.in-Goes.is c.requires.1 in (c.requires.0, (l.0, omega (arith, l.1)))
+raise_one-requires c = let l = leads_goes _ _ _ _ _ c.in-Goes.is c.requires.leads in record { ready = c.requires.ready; to_in_bounds = (l.0, omega (arith, l.1)) }
 
 -- src/walk.rt:162:43
 pub raise_both-requires : goal.raise_both-requires
-raise_both-requires c = let l = leads_forks _ _ _ _ _ _ c.in-Forks.is c.requires.1 in (c.requires.0, (l.0, (l.1.0, omega (arith, l.1.1))))
+raise_both-requires c = let l = leads_forks _ _ _ _ _ _ c.in-Forks.is c.requires.leads in record { ready = c.requires.ready; to_in_bounds = (l.0, (l.1.0, omega (arith, l.1.1))) }
 
 -- src/walk.rt:138:1
 pub returns-in-Ends : goal.returns-in-Ends
-returns-in-Ends c = turn_ends _ _ _ _ _ _ _ c.requires.0 c.in-Ends.is
+returns-in-Ends c = turn_ends _ _ _ _ _ _ _ c.requires.ready c.in-Ends.is
 
 -- src/walk.rt:138:1
 pub returns-in-Astray : goal.returns-in-Astray

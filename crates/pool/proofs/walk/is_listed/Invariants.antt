@@ -1,11 +1,5 @@
-use borrow.Author.Rules.{rules}
-use native.Mathlib.Omega.{arith}
-use Prim.Native.Nat.{ℕ, ◌≤◌, ◌<◌, ◌-◌, ◌+◌}
-use mathlib.Core.Path.{◌≡◌}
-use lib.ListN.{length}
-use Rattle.pool.proofs.Listing.{Looking, looking_first, looking_end, looking_on, looking_found}
-use Rattle.pool.proofs.walk.is_listed.Reads as reads
-use Rattle.pool.proofs.walk.is_listed.Lts as lts
+use Prim.Native.Nat.{◌-◌}
+use Rattle.pool.proofs.Listing.{Looking}
 use Rattle.pool.proofs.walk.is_listed.Given as goal
 
 abbrev pub invariant-loop-i : goal.invariant-loop-i

@@ -1,8 +1,6 @@
 -- `pool::walk::larger` meets its contract, by the one comparison.
 -- Assumes nothing.
 use borrow.Author.Tests.{lt-ltb, le-ltb}
-use Rattle.pool.proofs.walk.larger.Reads as reads
-use Rattle.pool.proofs.walk.larger.Lts as lts
 use Rattle.pool.proofs.walk.larger.Goals as goal
 
 -- src/walk.rt:242:1

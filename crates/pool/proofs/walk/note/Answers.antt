@@ -1,20 +1,13 @@
 -- `pool::walk::note` meets its contract: no function, one that is listed, or a new one, for which there is room.
 -- Assumes nothing.
-use mathlib.Core.Path.{◌≡◌, sym, ◌∙◌}
-use mathlib.Core.Bool.{Bool, true, false}
-use Prim.Native.Nat.{ℕ, ◌<◌}
+use mathlib.Core.Path.{sym, ◌∙◌}
+use Prim.Native.Nat.{◌<◌}
 use native.Mathlib.Omega.{arith}
-use lib.ListN.{take}
-use Rattle.buffers.specs.Walk.{has}
 use Rattle.pool.proofs.Listing.{listed_room, note_none, note_met, note_room, note_new}
-use borrow.Author.Rules.{rules}
-use Rattle.pool.proofs.walk.note.Reads as reads
-use Rattle.pool.proofs.walk.note.Lts as lts
-use Rattle.pool.proofs.walk.is_listed.Reads as is-listed-reads
 use Rattle.pool.proofs.walk.note.Goals as goal
 
-room : (c : tie.Else2) → c.before.before.before.before.before.args.met < 128
-room c = note_room _ _ _ c.before.before.before.before.before.requires.0 c.before.before.before.if1.false c.before.before.before.before.before.requires.1 (sym c.before.is-listed.ensures ∙ c.if2.false)
+room : (c : goal.Else-is_listed) → c.args.met < 128
+room c = note_room _ _ _ c.requires.0 c.if-cell-eq0.false c.requires.1 (sym c.is_listed.ensures ∙ c.if-is_listed.false)
 
 -- src/walk.rt:231:9
 pub returns-then-cell-eq0 : goal.returns-then-cell-eq0

@@ -1,8 +1,6 @@
 -- `pool::walk::peak_with` meets its contract, by the one comparison.
 -- Assumes nothing.
 use borrow.Author.Tests.{lt-ltb, le-ltb}
-use Rattle.pool.proofs.walk.peak_with.Reads as reads
-use Rattle.pool.proofs.walk.peak_with.Lts as lts
 use Rattle.pool.proofs.walk.peak_with.Goals as goal
 
 -- src/walk.rt:249:1

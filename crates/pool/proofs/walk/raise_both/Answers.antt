@@ -1,18 +1,12 @@
 -- `pool::walk::raise_both` meets its contract: two raises, one after the other.
 -- Assumes nothing.
-use mathlib.Core.Path.{◌≡◌, ◌∙◌}
-use Prim.Native.Nat.{ℕ, ◌<◌}
 use native.Mathlib.Omega.{arith}
 use Rattle.pool.proofs.Raising.{raised_ready, both_full, both_more}
-use borrow.Author.Rules.{rules}
-use Rattle.pool.proofs.walk.raise_both.Reads as reads
-use Rattle.pool.proofs.walk.raise_both.Lts as lts
-use Rattle.pool.proofs.walk.raise_one.Reads as raise-one-reads
 use Rattle.pool.proofs.walk.raise_both.Goals as goal
 
 -- src/walk.rt:104:26
 pub raise_one-requires : goal.raise_one-requires
-raise_one-requires c = let k = c.raise_one-first.auto in (raised_ready _ _ _ _ _ _ _ c.in-Go.is c.raise_one-first.ensures, (omega (arith, c.requires.1.1.0, k.0), c.requires.1.1.1))
+raise_one-requires c = let k = c.raise_one-first.auto in record { ready = raised_ready _ _ _ _ _ _ _ c.in-Go.is c.raise_one-first.ensures; to_in_bounds = (omega (arith, c.requires.to_in_bounds.1.0, k.numbers), c.requires.to_in_bounds.1.1) }
 
 -- src/walk.rt:87:1
 pub returns-in-Full : goal.returns-in-Full
@@ -20,4 +14,4 @@ returns-in-Full c = let a = c.args in both_full a.numbers.now a.places.now a.car
 
 -- src/walk.rt:87:1
 pub returns-in-Go : goal.returns-in-Go
-returns-in-Go c = let a = c.args in both_more a.numbers.now a.places.now a.carried.now a.head a.count a.sum a.to a.next _ _ _ c.raise_one-first.new.numbers c.raise_one-first.new.places.0 c.raise_one-first.new.places.1.0 _ _ _ c.in-Go.is c.raise_one-first.auto.1.0 c.raise_one-first.ensures c.raise_one.ensures
+returns-in-Go c = let a = c.args in both_more a.numbers.now a.places.now a.carried.now a.head a.count a.sum a.to a.next _ _ _ c.raise_one-first.new.numbers c.raise_one-first.new.places c.raise_one-first.new.carried _ _ _ c.in-Go.is c.raise_one-first.auto.places c.raise_one-first.ensures c.raise_one.ensures

@@ -1,12 +1,9 @@
 -- `pool::walk::seat` meets its contract, by the two cases of a place.
 -- Assumes nothing.
 use mathlib.Core.Path.{◌≡◌, ◌∙◌}
-use Prim.Native.Nat.{ℕ, ◌-◌}
+use Prim.Native.Nat.{◌-◌}
 use native.Mathlib.Omega.{arith}
 use Rattle.pool.proofs.Ring.{seat_before, seat_after}
-use borrow.Author.Rules.{rules}
-use Rattle.pool.proofs.walk.seat.Reads as reads
-use Rattle.pool.proofs.walk.seat.Lts as lts
 use Rattle.pool.proofs.walk.seat.Goals as goal
 
 -- src/walk.rt:50:9

@@ -1,10 +1,8 @@
 -- `pool::walk::turned` meets its contract.
 -- Assumes nothing.
-use mathlib.Core.Path.{◌≡◌, sym, ap}
+use mathlib.Core.Path.{sym, ap}
 use Rattle.pool.specs.Columns.{turn_of}
 use borrow.Author.Rules.{rules}
-use Rattle.pool.proofs.walk.turned.Reads as reads
-use Rattle.pool.proofs.walk.turned.Lts as lts
 use Rattle.pool.proofs.walk.turned.Goals as goal
 
 -- src/walk.rt:108:1

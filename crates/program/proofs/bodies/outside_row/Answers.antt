@@ -7,7 +7,7 @@ use borrow.Author.Count.{below_more}
 use borrow.Author.Rules.{rules}
 use Rattle.codes.specs.First.{row_if_lem, nowhere_if}
 use Rattle.program.specs.Refusals.{outside_of}
-use Rattle.program.specs.Laws.{inside_row, offset_outside, length_outside}
+use Rattle.program.proofs.Laws.{inside_row, offset_outside, length_outside}
 use Rattle.program.proofs.bodies.outside_row.Goals as goal
 
 pub loop-i-init : goal.loop-i-init

@@ -23,7 +23,7 @@ use Rattle.visit.specs.Graph.{Graph, Among, Calls, last, call, weigh, Reaches, s
 use Rattle.visit.specs.Visit.{onward, largest_of, closes, opening, total_by, total_of, none, visit_of}
 use Rattle.visit.specs.Cells.{at_cell, callees_from, callees_in, row_at, entry_rows}
 use Rattle.visit.specs.Fuel.{callee_same}
-use Rattle.visit.specs.Chains.{longer}
+use Rattle.visit.proofs.Chains.{longer}
 
 pub row_holds : (cells : List ℕ) (n place : ℕ) (gs : List ℕ) → length gs ≤ n
     → ((i : ℕ) → i < length gs → get_or cells (place + i) 0 ≡ suc (get_or gs i 0))

@@ -17,10 +17,10 @@ use Rattle.visit.specs.declared.Visited.{Visited}
 use Rattle.visit.specs.declared.Visited.TheVariants.{Fine, Cycle, Over}
 use Rattle.visit.specs.Graph.{Graph, Among, Calls, Chain, weigh, Distinct, Reaches, Heaviest, Tame}
 use Rattle.visit.specs.Visit.{onward, callee_of, closes, opening, total_of, met_of, none, visit_of}
-use Rattle.visit.specs.Answers.{Failed, cycled, passed, AllFine, fine_is, callee_unknown, callee_fine, callee_failed, fine_callees, failed_callee}
+use Rattle.visit.proofs.Answers.{Failed, cycled, passed, AllFine, fine_is, callee_unknown, callee_fine, callee_failed, fine_callees, failed_callee}
 use Rattle.visit.specs.Fuel.{total_step}
-use Rattle.visit.specs.Chains.{longer, no_cycle}
-use Rattle.visit.specs.Exact.{within, clear, independent, loops, weighs, overruns}
+use Rattle.visit.proofs.Chains.{longer, no_cycle}
+use Rattle.visit.proofs.Exact.{within, clear, independent, loops, weighs, overruns}
 
 -- each known entry is tame
 abbrev pub AllTame : Graph → ℕ → List ℕ → Type 0

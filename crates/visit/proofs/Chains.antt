@@ -7,7 +7,7 @@ use Rattle.std.proofs.Common.{subst, inl, inr, ⊎_elim, le_trans, arith}
 use Rattle.visit.specs.Graph.{Graph, Among, Calls, Chain, last, call, weigh, Distinct, Reaches, same, more, Tame}
 use Rattle.visit.specs.Visit.{opening, none}
 use Rattle.visit.specs.Fuel.{left, left_most, left_less}
-use Rattle.visit.specs.Exact.{opening_still}
+use Rattle.visit.proofs.Exact.{opening_still}
 
 -- a list of known functions, none of them open and none twice, is no longer than the count of those not open
 short : (p : List ℕ) (is_open : ℕ → Bool) → Distinct p → ((x : ℕ) → Among x p → (x < 128) × (is_open x ≡ false)) → length p ≤ left 128 is_open

@@ -15,7 +15,7 @@ use Rattle.visit.specs.declared.Visited.{Visited}
 use Rattle.visit.specs.declared.Visited.TheVariants.{Fine, Cycle, Over}
 use Rattle.visit.specs.Graph.{Graph, Among, Calls, Chain, last, call, weigh, Distinct, Reaches, same, more, Heaviest}
 use Rattle.visit.specs.Visit.{onward, callee_of, sum_of, closes, opening, total_of, met_of}
-use Rattle.visit.specs.Answers.{cycled, passed, AllFine, fine_is, cycle_not_over, onward_fine, onward_failed, closes_fine, closes_failed, callee_unknown, callee_new, callee_fine, callee_failed, fine_callees, failed_callee, same_fine}
+use Rattle.visit.proofs.Answers.{cycled, passed, AllFine, fine_is, cycle_not_over, onward_fine, onward_failed, closes_fine, closes_failed, callee_unknown, callee_new, callee_fine, callee_failed, fine_callees, failed_callee, same_fine}
 use Rattle.visit.specs.Fuel.{total_step, by_callees}
 
 -- ---- what stays open while one more function is
