@@ -6,9 +6,10 @@ use mathlib.Core.Path.{◌≡◌, refl, sym, ◌∙◌, ap}
 use mathlib.Core.List.{List, [], ◌∷◌, ◌++◌, append_assoc}
 use native.Mathlib.Omega.{arith}
 use native.Mathlib.Numerals.{add-one}
-use native.Mathlib.Nat.{add-zero, zero-add, zero-mul, suc-mul, sub-zero}
-use lib.ListN.{length, get_or, set, take, drop, length-set, length-append, take-append-drop, length-drop, get_or-append}
-use lib.Seq.{take-length, take-suc-set, drop-set-lt, get_or-drop, drop-drop, drop-append-le}
+use native.Mathlib.Nat.{add-zero, zero-add, zero-mul, suc-mul}
+use lib.ListN.{length, get_or, set, take, drop, take-append-drop, length-drop, get_or-append}
+use Rattle.std.proofs.Common.{length-take-le}
+use lib.Seq.{take-suc-set, drop-set-lt, get_or-drop, drop-drop, drop-append-le}
 use Rattle.seven.specs.Write.{laid}
 use Rattle.file.specs.declared.Table.{Table}
 use Rattle.file.specs.Numbers.{numbers}
@@ -78,14 +79,14 @@ column_front width k (suc count) front back lt h =
     rw (get_or-append front back 0 k (omega arith), drop-append-le width front back (omega arith), column_front width k count (drop width front) back lt (rw length-drop (omega arith)))
 
 -- the code's bytes, in the words of the code that copies them
-pub copied : (file column after : List ℕ) (start count size : ℕ) → size ≡ count →
-    after ≡ take (length (take (start + size - start) (drop start file))) (take (start + size - start) (drop start file)) ++
-    drop (length (take (start + size - start) (drop start file))) column →
-    after ≡ over (take count (drop start file)) column
+pub copied : (file column part : List ℕ) (start count size : ℕ) → size ≡ count → start + count ≤ length file →
+    part ≡ take (start + size - start) (drop start file) →
+    part ++ drop (start + size - start) column ≡ over (take count (drop start file)) column
 unfolding over
-copied file column after start count size e copy =
+copied file column part start count size e within copy =
     let n : start + size - start ≡ count = omega arith in
-    simp (n, take-length) at copy
+    let l : length (take count (drop start file)) ≡ count = length-take-le count (drop start file) (rw length-drop (omega arith)) in
+    rw (n, l, (rw n at copy)) refl
 
 -- a table without a row has nothing to lay
 pub nothing_laid : (file column : List ℕ) (table : Table) (width : ℕ) → table.count ≡ 0 → column ≡ over (numbers_of_table file table width) column

@@ -1,12 +1,12 @@
 -- What the second pass and the whole reading leave, in the words of the definitions.
 -- Assumes nothing.
-use Prim.Native.Nat.{ℕ, ◌+◌, ◌-◌, ◌*◌, ◌<◌, ◌≤◌}
-use mathlib.Core.Path.{◌≡◌, refl, sym, ◌∙◌, ap}
+use Prim.Native.Nat.{ℕ, ◌+◌, ◌*◌, ◌<◌, ◌≤◌}
+use mathlib.Core.Path.{◌≡◌, refl, ◌∙◌, ap}
 use mathlib.Core.List.{List}
 use mathlib.Core.Bool.{Bool, true, false, cond}
 use native.Mathlib.Omega.{arith}
 use native.Mathlib.Nat.{le_trans}
-use lib.ListN.{length, take, drop, length-take, length-drop}
+use lib.ListN.{length, take, drop, length-drop}
 use lib.Seq.{length-take-le}
 use lib.Dec.{ltb}
 use borrow.Author.Tests.{ltb-false}
@@ -15,16 +15,15 @@ use Rattle.file.specs.declared.Reading.TheVariants.{At, Stopped}
 use Rattle.file.specs.declared.Table.{Table}
 use Rattle.file.specs.declared.Layout.{Layout}
 use Rattle.file.specs.declared.Sizes.{Sizes}
-use Rattle.file.specs.declared.Outcome.{Outcome}
 use Rattle.file.specs.declared.Outcome.TheVariants.{Read, Refused}
 use Rattle.seven.specs.Seven.{Bytes}
 use Rattle.file.specs.Numbers.{numbers}
 use Rattle.file.specs.Tables.{layout_of, pool_of, rows_of, functions_of, descriptors_of, entries_of, code_of}
 use Rattle.file.specs.Columns.{column_of, column_at, numbers_of_table, over}
-use Rattle.file.specs.TableLaws.{Stood, low, whole, all_there}
+use Rattle.file.proofs.TableLaws.{Stood, low, whole, all_there}
 use Rattle.file.proofs.LaidLaws.{column_front}
 use Rattle.file.specs.Transposed.{column_length}
-use Rattle.file.specs.Stated.{tables_from, Columns, columns, Bench, Stated, states, refuses, tables_in, bench_of, stated_by, stated, below, short_room, room_of, read_into, sizes_of, sizes_in, outcome_of, laid_over, leaves, Ready}
+use Rattle.file.specs.Stated.{tables_from, Columns, columns, states, refuses, tables_in, bench_of, stated_by, stated, below, short_room, room_of, read_into, sizes_of, sizes_in, outcome_of, laid_over, leaves, Ready}
 
 -- the columns, one by one, are the tables' laid over
 pub laid_columns : (rows functions descriptors entries file : List ℕ) (layout : Layout) (n f d e : ℕ) (x0 x1 x2 x3 x4 x5 x6 x7 x8 x9 x10 x11 z0 z1 z2 z3 z4 z5 z6 z7 z8 z9 z10 z11 : List ℕ) →

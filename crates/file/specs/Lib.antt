@@ -2,7 +2,5 @@ pub mod Numbers
 pub mod Tables
 pub mod Columns
 pub mod Stated
-pub mod Examples
-pub mod TableLaws
 pub mod Written
 pub mod Transposed

@@ -1,6 +1,6 @@
 -- The program that a bench file states (01, "Bench file, program and C entry"), and what reading leaves in lent columns.
 -- Assumes nothing.
-use Rattle.std.specs.Prelude.{ℕ, ◌+◌, ◌≤◌, List, ◌++◌, Bool, true, false, cond, length, take, drop, ltb}
+use Rattle.std.specs.Prelude.{ℕ, ◌+◌, ◌≤◌, List, Bool, true, cond, length, take, drop, ltb}
 use Rattle.file.specs.declared.Reading.{Reading}
 use Rattle.file.specs.declared.Reading.TheVariants.{At, Stopped}
 use Rattle.file.specs.declared.Sizes.{Sizes}

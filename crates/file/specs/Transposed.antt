@@ -1,6 +1,6 @@
 -- Rows and columns: the rows of a table's columns are its numbers, and the columns of its rows are its columns, whatever the width.
 -- Assumes nothing.
-use Rattle.std.specs.Prelude.{ℕ, zero, suc, ◌+◌, ◌-◌, ◌*◌, ◌<◌, ◌≤◌, ◌≡◌, refl, List, [], ◌∷◌, ◌++◌, length, get_or, take, drop}
+use Rattle.std.specs.Prelude.{ℕ, zero, suc, ◌+◌, ◌*◌, ◌<◌, ◌≤◌, ◌≡◌, refl, List, [], ◌∷◌, ◌++◌, length, get_or, take, drop}
 use Rattle.std.proofs.Common.{sym, ◌∙◌, ap, arith, suc-mul, zero-mul, length-append, length-drop, take-append-drop, drop-cons, drop_at, take_all}
 use Rattle.std.proofs.Math.ListN.{get_or-append}
 use Rattle.file.specs.Columns.{column_of}

@@ -2,7 +2,7 @@
 -- Assumes nothing.
 use Rattle.std.specs.Prelude.{ℕ, zero, suc, List, [], ◌∷◌, ◌++◌, length, get_or}
 use Rattle.seven.specs.Write.{form}
-use Rattle.file.specs.Stated.{Columns, Bench}
+use Rattle.file.specs.Stated.{Bench}
 
 -- numbers one after the other
 unfoldable pub forms : List ℕ → List ℕ

@@ -1,5 +1,8 @@
 // The bench file (01, "Bench file, program and C entry"), read into lent columns. One pass reads all numbers into cells of its
 // own, a second fills the columns, so that a refused file leaves them as they were.
+
+#![tactic(auto)]
+
 mod lent;
 mod measure;
 
@@ -8,7 +11,7 @@ ghost use Rattle.file.specs.Columns.{column_of, over};
 ghost use Rattle.file.specs.Stated.{columns, tables_from, sizes_in, laid_over, Ready, outcome_of, read_into, leaves};
 
 // How far reading has come, or the refusal's number and place.
-#[derive(Drop)]
+#[derive(Clone, Copy)]
 pub enum Reading {
     At(usize),
     Stopped { number: u32, place: usize },
@@ -23,7 +26,7 @@ pub enum Run {
 }
 
 // A table of the file: how many rows, the place of the first, and how far reading has come after the last.
-#[derive(Drop)]
+#[derive(Clone, Copy)]
 pub struct Table {
     pub count: u16,
     pub start: usize,
@@ -31,7 +34,7 @@ pub struct Table {
 }
 
 // The tables in the order of the file, and how its reading ends. The pool and the code length are counts without rows.
-#[derive(Drop)]
+#[derive(Clone, Copy)]
 pub struct Layout {
     pub pool: Table,
     pub rows: Table,
@@ -159,7 +162,7 @@ fn into_code(code: &mut [u8], file: &[u8], table: Table)
 {
     let start = table.start;
     let end = start + wide(table.count);
-    bytes::copy(&file[start..end], code);
+    code[..end - start].copy_from_slice(&file[start..end]);
 }
 
 fn sizes_of(layout: Layout) -> Sizes

@@ -2,18 +2,18 @@
 -- Assumes nothing.
 use Prim.Native.Nat.{ℕ, suc, ◌+◌, ◌-◌, ◌*◌, ◌<◌, ◌≤◌}
 use mathlib.Core.Path.{◌≡◌, refl, sym, ◌∙◌, ap}
-use mathlib.Core.List.{List, [], ◌∷◌, ◌++◌, append-nil}
-use mathlib.Core.Bool.{Bool, true, false}
+use mathlib.Core.List.{List, [], ◌∷◌, ◌++◌}
+use mathlib.Core.Bool.{true, false}
 use native.Mathlib.Omega.{arith}
 use native.Mathlib.Numerals.{add-one}
-use lib.ListN.{length, get_or, take, drop, length-drop, drop_of_length-le}
-use lib.Seq.{drop-cons, take-length, take_all, length-take-le, drop-drop}
-use borrow.Rule.Slice.PartMut.{put_mid, mid_of, post_of}
-use lib.Dec.{ltb, leb}
+use lib.ListN.{length, get_or, take, drop, drop_of_length-le}
+use lib.Seq.{drop-cons, length-take-le, drop-drop}
+use borrow.Rule.Slice.PartMut.{put_mid}
+use lib.Dec.{ltb}
 use borrow.Author.Tests.{lt-ltb, le-ltb, le-leb, lt-leb}
 use Rattle.seven.specs.declared.Put.{Put}
 use Rattle.seven.specs.declared.Put.TheVariants.{After, NoRoom}
-use Rattle.seven.specs.Forms.{by_test}
+use Rattle.seven.proofs.Forms.{by_test}
 use Rattle.seven.specs.Write.{laid}
 use Rattle.file_writer.specs.declared.Wrote.{Wrote}
 use Rattle.file_writer.specs.declared.Wrote.TheVariants as W
@@ -56,25 +56,21 @@ unfolding all_small
 small_end column i h = rw (drop_of_length-le column h)
 
 pub bytes_fit : (buffer bytes : List ℕ) (at : ℕ) (after : List ℕ) → at + length bytes ≤ length buffer →
-    after ≡ take at buffer ++ (take (length bytes) bytes ++ drop (length bytes) (drop at buffer)) →
-    (After (at + length bytes), after) ≡ put_bytes (After at) bytes buffer
-unfolding put_bytes laid
-bytes_fit buffer bytes at after h e =
-    rw (le-leb _ _ h) (ap (λ (l : List ℕ). (After (at + length bytes), l)) (e ∙ rw (take-length, drop-drop (length bytes) at buffer)))
+    after ≡ laid buffer at bytes → (After (at + length bytes), after) ≡ put_bytes (After at) bytes buffer
+unfolding put_bytes
+bytes_fit buffer bytes at after h e = rw (le-leb _ _ h) (ap (λ (l : List ℕ). (After (at + length bytes), l)) e)
 
 pub bytes_full : (buffer bytes : List ℕ) (at : ℕ) → length buffer < at + length bytes → (NoRoom, buffer) ≡ put_bytes (After at) bytes buffer
 unfolding put_bytes
 bytes_full buffer bytes at h = rw (lt-leb _ _ h)
 
--- a part of the buffer from a place to its end, written and put back
-pub put_back : (buffer bytes part : List ℕ) (at : ℕ) → at ≤ length buffer →
-    part ≡ take (length bytes) bytes ++ drop (length bytes) (mid_of at (length buffer - at) buffer) →
-    put_mid at (length buffer - at) buffer part ≡ take at buffer ++ (take (length bytes) bytes ++ drop (length bytes) (drop at buffer))
-put_back buffer bytes part at h e =
-    let size : length (drop at buffer) ≡ length buffer - at = length-drop at buffer in
-    let mid : take (length buffer - at) (drop at buffer) ≡ drop at buffer = take_all (length buffer - at) (drop at buffer) (omega arith) in
-    let nothing : drop (length buffer - at) (drop at buffer) ≡ [] = drop_of_length-le (drop at buffer) {i = length buffer - at} (omega arith) in
-    rw (e, nothing, mid, append-nil)
+-- a part of the buffer as long as the bytes, written and put back
+pub put_back : (buffer bytes part : List ℕ) (at : ℕ) → part ≡ bytes →
+    put_mid at (at + length bytes - at) buffer part ≡ laid buffer at bytes
+unfolding laid
+put_back buffer bytes part at e =
+    let n : at + length bytes - at ≡ length bytes = omega arith in
+    rw (e, n, drop-drop (length bytes) at buffer)
 
 -- one number, or many, and what is left after them
 step_one : (s : Put) (b : List ℕ) (s' : Put) (b' : List ℕ) (n : ℕ) (rest : List ℕ) → ◌≡◌ {A = Buffer} (s', b') (put_one s n b) →
@@ -129,10 +125,8 @@ all_put pool n f d e k m1 m2 m3 m4 x0 x1 x2 x3 x4 x5 x6 x7 x8 x9 x10 x11 s0 s1 s
     last ∙ sym (ap (λ (z : Buffer). put_bytes z.0 x11 z.1) (ap (λ (l : List ℕ). put_all (After 0) l b) same ∙ whole))
 
 -- the file handed over
-pub handed : (buffer out after : List ℕ) (size : ℕ) → size ≤ length buffer → size ≤ length out →
-    after ≡ take (length (take size buffer)) (take size buffer) ++ drop (length (take size buffer)) out →
-    ◌≡◌ {A = Wrote × List ℕ} (W.Length size, after) (delivered buffer size out)
+pub handed : (buffer out part : List ℕ) (size : ℕ) → size ≤ length buffer → size ≤ length out → part ≡ take size buffer →
+    ◌≡◌ {A = Wrote × List ℕ} (W.Length size, part ++ drop size out) (delivered buffer size out)
 unfolding delivered over
-handed buffer out after size h k e =
-    rw (le-ltb (length buffer) size h, le-ltb (length out) size k)
-    (ap (λ (l : List ℕ). (W.Length size, l)) (e ∙ rw take-length))
+handed buffer out part size h k e =
+    rw (le-ltb (length buffer) size h, le-ltb (length out) size k, length-take-le size buffer h, e)

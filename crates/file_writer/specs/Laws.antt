@@ -1,28 +1,28 @@
 -- What a crate above may use of the bench file, over the promises of `read_file` and `write_file`: reading what was written gives the same
 -- program, and writing what was read gives the same bytes.
 -- Assumes nothing.
-use Rattle.std.specs.Prelude.{ℕ, zero, suc, ◌+◌, ◌-◌, ◌*◌, ◌<◌, ◌≤◌, ◌≡◌, refl, List, [], ◌∷◌, ◌++◌, Bool, true, false, cond, length, get_or, take, drop, ltb, eqb}
-use Rattle.std.proofs.Common.{sym, ◌∙◌, ap, arith, length-drop, take_at, get_or-drop, length-take-le, lt-ltb, le-ltb, eq-eqb, ltb-true, ltb-false}
+use Rattle.std.specs.Prelude.{ℕ, zero, suc, ◌+◌, ◌*◌, ◌<◌, ◌≤◌, ◌≡◌, refl, List, [], ◌∷◌, true, false, length, get_or, take, drop, ltb}
+use Rattle.std.proofs.Common.{sym, ap, arith, take_at, get_or-drop, lt-ltb, le-ltb, eq-eqb, ltb-false}
 use Rattle.seven.specs.declared.Number.{Number}
 use Rattle.seven.specs.declared.Number.TheVariants as N
 use Rattle.seven.specs.Seven.{number_at, Bytes}
-use Rattle.seven.specs.Forms.{by_test}
-use Rattle.seven.specs.Laws.{Stands, stands}
+use Rattle.seven.proofs.Forms.{by_test}
+use Rattle.seven.proofs.Laws.{stands}
 use Rattle.file_writer.specs.declared.Wrote.{Wrote}
 use Rattle.file_writer.specs.declared.Wrote.TheVariants as W
 use Rattle.file.specs.declared.Reading.TheVariants.{At}
 use Rattle.file.specs.declared.Table.{Table}
 use Rattle.file.specs.Numbers.{on_value, numbers}
 use Rattle.file.specs.Tables.{begin, layout_of, pool_of, rows_of, functions_of, descriptors_of, entries_of, code_of}
-use Rattle.file.specs.TableLaws.{Whole, whole, low, never_at}
+use Rattle.file.proofs.TableLaws.{whole, low, never_at}
 use Rattle.file.specs.Transposed.{column_length}
 use Rattle.file_writer.specs.WritesBack.{stated_inv, writes_back}
 use Rattle.file.specs.Columns.{column_of, column_at, numbers_of_table, over}
-use Rattle.file.specs.Stated.{Stated, states, Bench, Columns, tables_in, bench_of, stated_by, stated}
+use Rattle.file.specs.Stated.{states, Bench, tables_in, bench_of, stated_by, stated}
 use Rattle.file.specs.Written.{row_table, function_table, descriptor_table, entry_table, file_of}
 use Rattle.file_writer.specs.Writing.{all_small, differ, uneven_room, refused_in, refused_to_write, write_into}
 use Rattle.file_writer.specs.RoundTrip.{Small}
-use Rattle.file_writer.specs.ReadsBack.{small_nothing, Tabled, Writable, reads_back}
+use Rattle.file_writer.specs.ReadsBack.{small_nothing, Writable, reads_back}
 use Rattle.file_writer.specs.NumbersLaws.{Sound, sound}
 
 -- what lent columns of 16-bit cells hold

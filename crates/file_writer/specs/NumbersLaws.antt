@@ -9,8 +9,8 @@ use native.Mathlib.Omega.{arith}
 use Rattle.std.proofs.Math.Numerals.{add-one}
 use Rattle.std.proofs.Math.ListN.{get_or}
 use borrow.Author.Tests.{lt-ltb, le-ltb, ltb-true, ltb-false, eqb-true}
-use Rattle.seven.specs.Forms.{by_test}
-use Rattle.file.specs.Stated.{Columns, Bench, room_of}
+use Rattle.seven.proofs.Forms.{by_test}
+use Rattle.file.specs.Stated.{Columns, Bench}
 use Rattle.file.specs.Written.{row_at, rows_from, table_numbers, row_table, function_table, descriptor_table, entry_table, numbers_in}
 use Rattle.file_writer.specs.Writing.{fit, cell_of, next_index, next_row, listed, all_small, differ, uneven_room, refused_in, refused_to_write, counted, spare, all_numbers}
 

@@ -1,20 +1,19 @@
 -- Reading what was written gives the same program.
 -- Assumes nothing.
-use Rattle.std.specs.Prelude.{ℕ, zero, suc, ◌+◌, ◌-◌, ◌*◌, ◌<◌, ◌≤◌, ◌≡◌, refl, List, [], ◌∷◌, ◌++◌, length, get_or, take, drop, ltb}
-use Rattle.std.proofs.Common.{sym, ◌∙◌, ap, append_assoc, append-nil, arith, mul-zero, length-append, length-drop, take_all, drop_at, le-ltb}
+use Rattle.std.specs.Prelude.{ℕ, zero, suc, ◌+◌, ◌-◌, ◌*◌, ◌<◌, ◌≤◌, ◌≡◌, refl, List, [], ◌∷◌, ◌++◌, length, get_or, take, drop}
+use Rattle.std.proofs.Common.{sym, ◌∙◌, ap, append_assoc, append-nil, arith, mul-zero, length-append, take_all, drop_at, le-ltb}
 use Rattle.seven.specs.declared.Number.TheVariants as N
 use Rattle.seven.specs.Seven.{number_at}
 use Rattle.seven.specs.Write.{form}
-use Rattle.seven.specs.Laws.{found}
+use Rattle.seven.proofs.Laws.{found}
 use Rattle.file.specs.declared.Reading.{Reading}
-use Rattle.file.specs.declared.Reading.TheVariants.{At, Stopped}
+use Rattle.file.specs.declared.Reading.TheVariants.{At}
 use Rattle.file.specs.declared.Run.TheVariants as R
 use Rattle.file.specs.declared.Table.{Table}
-use Rattle.file.specs.declared.Layout.{Layout}
 use Rattle.file.specs.Numbers.{run_of, numbers}
 use Rattle.file.specs.Tables.{after_run, on_count, counted, table_of, begin, code_end, end_of, layout_of, pool_of, rows_of, functions_of, descriptors_of, entries_of, code_of}
-use Rattle.file.specs.Columns.{column_of, column_at, numbers_of_table}
-use Rattle.file.specs.Stated.{Stated, states, refuses, Bench, Columns, columns, tables_in, bench_of, stated_by, stated}
+use Rattle.file.specs.Columns.{column_at, numbers_of_table}
+use Rattle.file.specs.Stated.{states, Bench, tables_in, bench_of, stated_by, stated}
 use Rattle.file.specs.Written.{forms, row_at, rows_from, table_numbers, row_table, function_table, descriptor_table, entry_table, numbers_in, file_of}
 use Rattle.file.specs.Transposed.{columns_of_rows, rows_length}
 use Rattle.file_writer.specs.RoundTrip.{Small, Reads, reads_forms, joined}

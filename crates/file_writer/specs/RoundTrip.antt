@@ -1,22 +1,20 @@
 -- Reading what was written gives the same program; writing what was read gives the same bytes.
 -- Assumes nothing.
-use Prim.Native.Nat.{ℕ, zero, suc, ◌+◌, ◌-◌, ◌*◌, ◌<◌, ◌≤◌}
-use Rattle.std.specs.Prelude.{◌≡◌, get_or, take, drop}
+use Prim.Native.Nat.{ℕ, zero, suc, ◌+◌, ◌<◌, ◌≤◌}
+use Rattle.std.specs.Prelude.{◌≡◌, get_or, drop}
 use Rattle.std.proofs.Math.Path.{refl, sym, ap}
-use Rattle.std.proofs.Common.{◌∙◌, arith, add-zero, zero-add, suc-mul, add_assoc, add-one, length-drop}
-use mathlib.Core.List.{List, [], ◌∷◌, ◌++◌, append_assoc, append-nil}
+use Rattle.std.proofs.Common.{◌∙◌, arith, add-zero, add_assoc}
+use mathlib.Core.List.{List, [], ◌∷◌, ◌++◌, append_assoc}
 use Rattle.std.proofs.Math.ListN.{length, length-append}
 use Rattle.seven.specs.declared.Number.{Number}
 use Rattle.seven.specs.declared.Number.TheVariants as N
 use Rattle.seven.specs.Seven.{number_at, Bytes}
 use Rattle.seven.specs.Write.{form}
-use Rattle.seven.specs.Laws.{found, Stands, stands}
-use Rattle.file.specs.declared.Run.{Run}
+use Rattle.seven.proofs.Laws.{found, Stands, stands}
 use Rattle.file.specs.declared.Run.TheVariants as R
 use Rattle.file.specs.Numbers.{on_number, on_value, run_of, numbers}
-use Rattle.file.specs.Columns.{column_of}
-use Rattle.file.specs.TableLaws.{no_bad, no_early}
-use Rattle.file.specs.Written.{forms, row_at, rows_from, table_numbers, numbers_in, file_of}
+use Rattle.file.proofs.TableLaws.{no_bad, no_early}
+use Rattle.file.specs.Written.{forms}
 
 -- every number of a list has a form
 unfoldable pub Small : List ℕ → Type 0

@@ -1,20 +1,20 @@
 -- Writing what was read gives the same bytes.
 -- Assumes nothing.
-use Rattle.std.specs.Prelude.{ℕ, ◌+◌, ◌-◌, ◌*◌, ◌≤◌, ◌≡◌, refl, List, [], ◌∷◌, ◌++◌, cond, length, take, drop, ltb}
+use Rattle.std.specs.Prelude.{ℕ, ◌*◌, ◌≡◌, refl, List, [], ◌∷◌, ◌++◌, length, take, drop, ltb}
 use Rattle.std.proofs.Common.{sym, ◌∙◌, ap, append_assoc, arith, mul-zero, length-drop, take_all}
 use Rattle.seven.specs.Seven.{Bytes}
 use Rattle.seven.specs.Write.{form}
-use Rattle.seven.specs.Forms.{by_test}
-use Rattle.seven.specs.Laws.{Stands, stands}
+use Rattle.seven.proofs.Forms.{by_test}
+use Rattle.seven.proofs.Laws.{Stands, stands}
 use Rattle.file.specs.declared.Reading.{Reading}
 use Rattle.file.specs.declared.Reading.TheVariants.{At, Stopped}
 use Rattle.file.specs.declared.Table.{Table}
 use Rattle.file.specs.Numbers.{numbers}
 use Rattle.file.specs.Tables.{begin, layout_of, pool_of, rows_of, functions_of, descriptors_of, entries_of, code_of}
-use Rattle.file.specs.Columns.{column_of, column_at, numbers_of_table}
-use Rattle.file.specs.Stated.{Stated, states, refuses, Bench, Columns, tables_in, bench_of, stated_by, stated}
-use Rattle.file.specs.TableLaws.{Stood, Whole, whole, no_rows, all_there, never_at}
-use Rattle.file.specs.Written.{forms, row_at, rows_from, table_numbers, numbers_in, file_of}
+use Rattle.file.specs.Columns.{column_at, numbers_of_table}
+use Rattle.file.specs.Stated.{states, Bench, tables_in, bench_of, stated_by, stated}
+use Rattle.file.proofs.TableLaws.{Stood, Whole, whole, no_rows, all_there, never_at}
+use Rattle.file.specs.Written.{forms, table_numbers, numbers_in, file_of}
 use Rattle.file.specs.Transposed.{columns_of, column_length, rows_of_columns}
 use Rattle.file_writer.specs.RoundTrip.{Written, run_written, joined}
 

@@ -10,7 +10,7 @@ use Rattle.file_writer.specs.declared.Wrote.{Wrote}
 use Rattle.file_writer.specs.declared.Wrote.TheVariants as W
 use Rattle.file.specs.Columns.{over}
 use Rattle.file.specs.Stated.{Columns, Bench, room_of}
-use Rattle.file.specs.Written.{numbers_in, file_of}
+use Rattle.file.specs.Written.{file_of}
 
 abbrev pub Buffer : Type 0
 Buffer = Put × List ℕ

@@ -1,21 +1,19 @@
 -- What the writer leaves is the bench file of the program: numbers put one after the other are laid over the buffer as their forms.
 -- Assumes nothing.
-use Rattle.std.specs.Prelude.{ℕ, zero, suc, ◌+◌, ◌-◌, ◌*◌, ◌<◌, ◌≤◌, ◌≡◌, refl, List, [], ◌∷◌, ◌++◌, Bool, true, false, cond, length, get_or, take, drop, ltb, leb, eqb}
-use Rattle.std.proofs.Common.{sym, ◌∙◌, ap, append_assoc, append-nil, arith, add-one, add-zero, zero-add, add_assoc, suc-mul, length-append, length-drop, take-append-drop, take_at, drop-drop, length-take-le, take_all, le-leb, leb-true, leb-false, ltb-true, ltb-false, lt-ltb, le-ltb, eqb-true}
-use Rattle.std.proofs.Math.ListN.{get_or-eq_default}
+use Rattle.std.specs.Prelude.{ℕ, ◌+◌, ◌<◌, ◌≤◌, ◌≡◌, refl, List, [], ◌∷◌, ◌++◌, true, false, length, take, drop, ltb, leb}
+use Rattle.std.proofs.Common.{sym, ◌∙◌, ap, append_assoc, arith, add-zero, add_assoc, length-append, length-drop, take-append-drop, take_at, drop-drop, length-take-le, le-leb, leb-true, leb-false, ltb-true, ltb-false, le-ltb}
 use Rattle.std.proofs.Math.Seq.{drop-append-add}
-use Rattle.std.proofs.lemmas.Bool.{lt-leb, eqb-false}
+use Rattle.std.proofs.lemmas.Bool.{lt-leb}
 use Rattle.seven.specs.declared.Put.{Put}
 use Rattle.seven.specs.declared.Put.TheVariants.{After, NoRoom}
-use Rattle.seven.specs.Forms.{by_test}
+use Rattle.seven.proofs.Forms.{by_test}
 use Rattle.seven.specs.Write.{form, laid, written}
 use Rattle.file_writer.specs.declared.Wrote.{Wrote}
 use Rattle.file_writer.specs.declared.Wrote.TheVariants as W
-use Rattle.file.specs.Columns.{over}
-use Rattle.file.specs.Stated.{Columns, Bench, columns, room_of}
-use Rattle.file.specs.Written.{forms, row_at, rows_from, table_numbers, row_table, function_table, descriptor_table, entry_table, numbers_in, file_of}
+use Rattle.file.specs.Stated.{Bench}
+use Rattle.file.specs.Written.{forms, numbers_in, file_of}
 use Rattle.file_writer.specs.NumbersLaws.{numbers_same}
-use Rattle.file_writer.specs.Writing.{Buffer, put_one, put_all, put_bytes, fit, cell_of, next_index, next_row, listed, all_small, differ, uneven_room, refused_in, refused_to_write, counted, spare, all_numbers, wrote_all, delivered, write_into}
+use Rattle.file_writer.specs.Writing.{Buffer, put_one, put_all, put_bytes, refused_to_write, wrote_all, delivered, write_into}
 
 -- bytes laid behind bytes
 laid_split : (b xs : List ℕ) (at : ℕ) → laid b at xs ≡ (take at b ++ xs) ++ drop (at + length xs) b

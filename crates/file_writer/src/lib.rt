@@ -1,5 +1,8 @@
 // The bench file (01, "Bench file, program and C entry"), written from columns. Its laws say that reader and writer are each the other's
 // inverse.
+
+#![tactic(auto)]
+
 mod write;
 
 ghost use Rattle.std.specs.Prelude.{◌≡◌};

@@ -28,8 +28,9 @@ pub fn put_bytes(buffer: &mut [u8], before: Put, bytes: &[u8]) -> Put
             if buffer.len() - at < bytes.len() {
                 return Put::NoRoom;
             }
-            bytes::copy(bytes, &mut buffer[at..]);
-            Put::After(at + bytes.len())
+            let end = at + bytes.len();
+            buffer[at..end].copy_from_slice(bytes);
+            Put::After(end)
         }
         Put::NoRoom => Put::NoRoom,
     }
@@ -281,6 +282,6 @@ pub fn deliver(out: &mut [u8], buffer: &[u8], size: usize) -> Wrote
     if out.len() < size {
         return Wrote::NoRoom;
     }
-    bytes::copy(&buffer[..size], out);
+    out[..size].copy_from_slice(&buffer[..size]);
     Wrote::Length(size)
 }

@@ -1,1 +1,3 @@
+pub mod Forms
+pub mod Laws
 pub mod Writes

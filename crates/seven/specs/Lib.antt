@@ -1,4 +1,2 @@
 pub mod Seven
 pub mod Write
-pub mod Forms
-pub mod Laws

@@ -5,7 +5,7 @@ use mathlib.Core.List.{[], ◌∷◌}
 use native.Mathlib.Numerals.{add-one, add-two}
 use lib.ListN.{length-set}
 use Prim.Native.Nat.{◌+◌, ◌/◌, ◌%◌}
-use Rattle.seven.specs.Forms.{some_byte, two_bytes, three_bytes, form_one, form_two, form_three}
+use Rattle.seven.proofs.Forms.{some_byte, two_bytes, three_bytes, form_one, form_two, form_three}
 use Rattle.seven.proofs.Writes.{stored, no_room}
 use Rattle.seven.proofs.write_number.Goals as goal
 
