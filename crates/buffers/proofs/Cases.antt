@@ -19,7 +19,7 @@ use Rattle.flow.specs.declared.Flow.TheVariants.{Next, Jump, Branch, Return}
 use Rattle.flow.specs.declared.Target.{Target}
 use Rattle.flow.specs.declared.Target.TheVariants.{Legal, Illegal}
 use Rattle.flow.specs.Decode.{operands_at, flow_of, moved, target_of}
-use Rattle.flow.specs.Next.{legal}
+use Rattle.flow.proofs.Next.{legal}
 use Rattle.buffers.specs.declared.Way.{Way}
 use Rattle.buffers.specs.declared.Way.TheVariants.{Ends, Astray, Goes, Forks}
 use Rattle.buffers.specs.declared.Tread.{Tread}

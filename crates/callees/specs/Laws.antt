@@ -13,7 +13,7 @@ use Rattle.flow.specs.Decode.{word_at}
 use Rattle.codes.specs.declared.Place.{Place}
 use Rattle.codes.specs.declared.Place.TheVariants.{Row, Nowhere}
 use Rattle.codes.specs.Lookup.{place_of, hinted_of}
-use Rattle.codes.specs.LookupLaws.{hinted_place}
+use Rattle.codes.proofs.LookupLaws.{hinted_place}
 use Rattle.program.specs.declared.Room.{Room}
 use Rattle.program.specs.Program.{Program}
 use Rattle.program.specs.Seat.{seat_of}

@@ -17,7 +17,8 @@ use Rattle.flow.specs.Walk.{walk_by, has_ret}
 use Rattle.codes.specs.declared.Place.{Place}
 use Rattle.codes.specs.declared.Place.TheVariants.{Row, Nowhere}
 use Rattle.codes.specs.Lookup.{place_of}
-use Rattle.codes.specs.LookupLaws.{place_in, place_nowhere, place_missing, hinted_up_lem}
+use Rattle.codes.specs.LookupLaws.{place_in, place_nowhere, place_missing}
+use Rattle.codes.proofs.LookupLaws.{hinted_up_lem}
 use Rattle.program.specs.declared.Room.{Room}
 use Rattle.program.specs.Program.{CodeList, Program, body_of, body_is}
 use Rattle.program.specs.Seat.{seat_of}

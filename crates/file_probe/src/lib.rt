@@ -1,5 +1,8 @@
 // The bench file for the tests of other languages. The caller lends every column and the buffer, so that it can look at each cell
 // afterwards; tests/driver/file_probe.h says what the numbers mean. Nothing here is part of the product.
+
+#![tactic(auto)]
+
 use file::{Outcome, Sizes};
 use file_writer::Wrote;
 

@@ -1,1 +1,5 @@
 pub mod Marking
+pub mod Laws
+pub mod StartLaws
+pub mod Next
+pub mod Examples

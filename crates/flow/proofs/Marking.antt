@@ -11,7 +11,7 @@ use Rattle.flow.specs.declared.Step.TheVariants.{Instruction}
 use Rattle.flow.specs.Decode.{step_by}
 use Rattle.flow.specs.Walk.{Walk, stops, instr, walk_by, end_of, mark_all, has_ret}
 use Rattle.flow.specs.Marked.{Marked, Skipped}
-use Rattle.flow.specs.Laws.{stands, step_instruction, walk_is}
+use Rattle.flow.proofs.Laws.{stands, step_instruction, walk_is}
 
 module _ (sizes : ℕ → ℕ) (body : List ℕ) where
   pub marked_first : (from : ℕ) (marks : List ℕ) → from ≤ length body → Marked sizes body from marks from marks

@@ -17,9 +17,9 @@ use Rattle.flow.specs.declared.Spot.{Spot}
 use Rattle.flow.specs.declared.Target.TheVariants.{Legal}
 use Rattle.flow.specs.Decode.{step_by, moved, target_of}
 use Rattle.flow.specs.Walk.{walk_by, end_of, is_start, marks_of}
-use Rattle.flow.specs.Laws.{Stands, stands, step_end}
-use Rattle.flow.specs.Starts.{marked, Begins, begins}
-use Rattle.flow.specs.Next.{Standing, first_stands, next_stands, target_stands, marks_are}
+use Rattle.flow.proofs.Laws.{Stands, stands, step_end}
+use Rattle.flow.proofs.StartLaws.{marked, Begins, begins}
+use Rattle.flow.proofs.Next.{Standing, first_stands, next_stands, target_stands, marks_are}
 use Rattle.machine.specs.Machine.{Onward}
 
 module _ (sizes : ℕ → ℕ) (body : List ℕ) where

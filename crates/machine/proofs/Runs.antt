@@ -13,9 +13,9 @@ use Rattle.tables.specs.Set.{size_of, move_of}
 use Rattle.flow.specs.declared.Step.TheVariants.{End}
 use Rattle.flow.specs.declared.Flow.TheVariants.{Return}
 use Rattle.flow.specs.Walk.{marks_of}
-use Rattle.flow.specs.Laws.{end_only}
-use Rattle.flow.specs.Starts.{Begins}
-use Rattle.flow.specs.Next.{Standing, first_stands, return_is}
+use Rattle.flow.proofs.Laws.{end_only}
+use Rattle.flow.proofs.StartLaws.{Begins}
+use Rattle.flow.proofs.Next.{Standing, first_stands, return_is}
 use Rattle.program.specs.declared.Room.{Room}
 use Rattle.program.specs.Program.{PoolProgram, body_of}
 use Rattle.rules.specs.declared.Look.{Look}
@@ -27,8 +27,8 @@ use Rattle.effects.specs.Effects.{known_of}
 use Rattle.stack.specs.Exact.{Balanced, Sound}
 use Rattle.callees.specs.Callees.{temps_of, opens_of}
 use Rattle.visit.specs.Graph.{Graph, Calls, Reaches, same, more, Tame}
-use Rattle.visit.specs.Laws.{reaches_on, tame_self, tame_callee}
-use Rattle.visit.specs.Chains.{no_cycle}
+use Rattle.visit.proofs.Laws.{reaches_on, tame_self, tame_callee}
+use Rattle.visit.proofs.Chains.{no_cycle}
 use Rattle.pool.specs.Accepts.{call_graph, Reached, PoolSound, Sheet}
 use Rattle.pool.proofs.Opening.{reached_inside}
 use Rattle.pool.proofs.Sheets.{reached_tame, reached_callee, bodies_dominated}

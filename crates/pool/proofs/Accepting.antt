@@ -16,15 +16,15 @@ use Rattle.program.specs.declared.Input.{Input}
 use Rattle.program.specs.declared.Room.{Room}
 use Rattle.program.specs.Program.{PoolProgram, body_of}
 use Rattle.program.specs.Refusals.{pool_input}
-use Rattle.program.specs.Taken.{pool_taken}
+use Rattle.program.proofs.Taken.{pool_taken}
 use Rattle.buffers.specs.Walk.{undecodable, crowded, used_of}
 use Rattle.callees.specs.Callees.{temps_of, opens_of}
 use Rattle.visit.specs.declared.Visited.{Visited}
 use Rattle.visit.specs.Graph.{Among}
 use Rattle.visit.specs.Visit.{visit_of}
 use Rattle.visit.specs.Cells.{row_at}
-use Rattle.visit.specs.Laws.{row_known, known_row}
-use Rattle.visit.specs.Theorems.{accepted}
+use Rattle.visit.proofs.Laws.{row_known, known_row}
+use Rattle.visit.proofs.Theorems.{accepted}
 use Rattle.pool.specs.declared.Verdict.{Verdict}
 use Rattle.pool.specs.Pool.{peak_of, on_used, on_visited, program_answer, entries_of, walk_at, on_input, taken_answer, pool_answer}
 use Rattle.pool.specs.Accepts.{function_count, WalkEnds, call_graph, Entered, PoolSound}

@@ -18,7 +18,7 @@ use Rattle.tables.specs.declared.TempEffect.{TempEffect}
 use Rattle.tables.specs.Set.{size_of, move_of, temp_of}
 use Rattle.tables.specs.Packed.{size_in, move_in, temp_in, size_table, word_table}
 use Rattle.tables.specs.Stored.{size_stored, move_stored, temp_stored}
-use Rattle.flow.specs.Laws.{walk_end}
+use Rattle.flow.proofs.Laws.{walk_end}
 use Rattle.flow.specs.declared.starts.Decoded.{Decoded}
 use Rattle.flow.specs.Walk.{end_of, marks_of}
 use Rattle.codes.specs.Lookup.{place_of, hinted_of}
@@ -28,7 +28,8 @@ use Rattle.program.specs.Program.{Program, PoolProgram, body_of, body_is}
 use Rattle.program.specs.Refusals.{is_taken, room_of, pool_input}
 use Rattle.program.specs.Seat.{seat_of}
 use Rattle.program.specs.Laws.{seat_place}
-use Rattle.program.specs.Taken.{StackTaken, PoolTaken, pool_taken, taken_is}
+use Rattle.program.specs.Taken.{StackTaken, PoolTaken, taken_is}
+use Rattle.program.proofs.Taken.{pool_taken}
 use Rattle.buffers.specs.Tread.{Temps, Opens, treads, tread_of}
 use Rattle.buffers.specs.declared.Way.{Way}
 use Rattle.buffers.specs.declared.Tread.{Tread}
@@ -41,7 +42,7 @@ use Rattle.callees.specs.Laws.{temps_are, opens_are}
 use Rattle.visit.specs.declared.Visited.{Visited}
 use Rattle.visit.specs.Visit.{visit_of}
 use Rattle.visit.specs.Cells.{callees_in, graph_in, row_at, entry_rows}
-use Rattle.visit.specs.Laws.{same_graph}
+use Rattle.visit.proofs.Laws.{same_graph}
 use Rattle.pool.specs.declared.Verdict.{Verdict}
 use Rattle.pool.specs.declared.bodies.Ended.{Ended}
 use Rattle.pool.specs.declared.bodies.Usages.{Usages}

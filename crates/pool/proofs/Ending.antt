@@ -9,7 +9,7 @@ use mathlib.Core.List.{List}
 use lib.ListN.{length}
 use Rattle.flow.specs.declared.starts.Decoded.{Decoded}
 use Rattle.flow.specs.Walk.{walk_by, end_of, marks_of}
-use Rattle.flow.specs.Next.{body_fits}
+use Rattle.flow.proofs.Next.{body_fits}
 use Rattle.buffers.specs.declared.Used.{Used}
 use Rattle.buffers.specs.Tread.{Temps, Opens, tread_of}
 use Rattle.buffers.specs.Walk.{Usage, Walked, undecodable, crowded, unfinished, walked, walk_of, used_of}

@@ -15,7 +15,7 @@ use Rattle.buffers.specs.Walk.{has, noted}
 use Rattle.buffers.proofs.Queue.{noted_none, noted_met, noted_new, has_here, has_later}
 use Rattle.visit.specs.Visit.{opening, none}
 use Rattle.visit.specs.Fuel.{left, left_most, left_less}
-use Rattle.visit.specs.Exact.{opening_still}
+use Rattle.visit.proofs.Exact.{opening_still}
 use Rattle.pool.specs.Columns.{Apart, Listed}
 
 or_else : (a b : Bool) → b ≡ true → cond a true b ≡ true

@@ -14,19 +14,19 @@ use mathlib.Core.List.{List}
 use lib.ListN.{length, get_or}
 use Rattle.tables.specs.Set.{size_of}
 use Rattle.flow.specs.Walk.{marks_of}
-use Rattle.flow.specs.Next.{body_fits}
+use Rattle.flow.proofs.Next.{body_fits}
 use Rattle.codes.specs.LookupLaws.{place_row, place_in, place_has}
 use Rattle.program.specs.declared.Input.{Input}
 use Rattle.program.specs.declared.Room.{Room}
 use Rattle.program.specs.Program.{PoolProgram, body_of}
 use Rattle.program.specs.Refusals.{pool_input}
 use Rattle.program.specs.Laws.{distinct}
-use Rattle.program.specs.Taken.{pool_taken}
+use Rattle.program.proofs.Taken.{pool_taken}
 use Rattle.buffers.specs.Walk.{undecodable, crowded, used_of}
 use Rattle.buffers.proofs.Theorems.{crowded_exact, undecodable_strays}
 use Rattle.callees.specs.Callees.{temps_of, opens_of}
 use Rattle.visit.specs.declared.Visited.{Visited}
-use Rattle.visit.specs.Theorems as visiting
+use Rattle.visit.proofs.Theorems as visiting
 use Rattle.pool.specs.declared.Verdict.{Verdict}
 use Rattle.pool.specs.Pool.{peak_of, on_visited, entries_of, walk_at, pool_answer}
 use Rattle.pool.specs.Accepts.{function_count, Named, call_graph, Overruns, Recurs, FirstRow, Strays, Undecodable, Crowds}

@@ -12,7 +12,7 @@ use lib.ListN.{length}
 use borrow.Author.Tests.{lt-ltb}
 use Rattle.tables.specs.Set.{size_of, move_of}
 use Rattle.flow.specs.Walk.{marks_of}
-use Rattle.flow.specs.Next.{body_fits}
+use Rattle.flow.proofs.Next.{body_fits}
 use Rattle.codes.specs.declared.Place.{Place}
 use Rattle.codes.specs.Lookup.{place_of}
 use Rattle.codes.specs.LookupLaws.{place_in}

@@ -11,7 +11,7 @@ use Rattle.cells.specs.Zeros.{zeros}
 use Rattle.buffers.specs.declared.Used.{Used}
 use Rattle.buffers.specs.Walk.{Walked}
 use Rattle.visit.specs.Cells.{callees_in}
-use Rattle.visit.specs.Laws.{row_holds, callees_are, same_cells}
+use Rattle.visit.proofs.Laws.{row_holds, callees_are, same_cells}
 use Rattle.pool.specs.Columns.{Walks, Listed, Blank, Laid, Lays}
 use Rattle.pool.specs.Pool.{rows_in}
 use Rattle.pool.proofs.Listing.{has_at}

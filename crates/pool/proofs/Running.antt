@@ -8,7 +8,7 @@ use lib.ListN.{length, set}
 use Rattle.cells.specs.Zeros.{zeros, zeros_are, length_zeros, any_zero}
 use Rattle.flow.specs.declared.starts.Decoded.{Decoded}
 use Rattle.flow.specs.Walk.{walk_by, end_of, mark_all, marks_of}
-use Rattle.flow.specs.Next.{marks_fit, marks_are, body_fits}
+use Rattle.flow.proofs.Next.{marks_fit, marks_are, body_fits}
 use Rattle.buffers.specs.declared.Used.{Used}
 use Rattle.buffers.specs.Tread.{Temps, Opens, tread_of}
 use Rattle.buffers.specs.Walk.{Walked, undecodable, crowded, unfinished, walked, begun, walk_of, used_of}

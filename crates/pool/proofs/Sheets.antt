@@ -15,16 +15,16 @@ use lib.ListN.{length}
 use borrow.Author.Tests.{lt-ltb}
 use Rattle.tables.specs.Set.{size_of}
 use Rattle.flow.specs.Walk.{marks_of}
-use Rattle.flow.specs.Next.{body_fits}
+use Rattle.flow.proofs.Next.{body_fits}
 use Rattle.program.specs.declared.Room.{Room}
 use Rattle.program.specs.Program.{PoolProgram, body_of}
-use Rattle.program.specs.Taken.{pool_taken}
+use Rattle.program.proofs.Taken.{pool_taken}
 use Rattle.buffers.specs.Walk.{Usage, Walked, walked, callees_of}
 use Rattle.buffers.specs.Meaning as meaning
 use Rattle.buffers.proofs.Theorems.{dominates, weight_largest, peak_first, callees_met, weight_small, weight_exact, callees_exact, walked_straight}
 use Rattle.callees.specs.Callees.{temps_of, opens_of}
 use Rattle.visit.specs.Graph.{Among, Calls, Tame}
-use Rattle.visit.specs.Laws.{reaches_on, tame_self, tame_reached}
+use Rattle.visit.proofs.Laws.{reaches_on, tame_self, tame_reached}
 use Rattle.pool.specs.Pool.{weight_of, peak_of, rows_in, walk_at}
 use Rattle.pool.specs.Accepts.{function_count, WalkEnds, call_graph, Finds, Reached, PoolSound, Sheet, Paths}
 use Rattle.pool.proofs.Ending.{body_walked}

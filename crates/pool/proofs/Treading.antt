@@ -14,7 +14,7 @@ use Rattle.flow.specs.declared.Flow.{Flow}
 use Rattle.flow.specs.declared.Flow.TheVariants.{Next, Jump, Branch, Return}
 use Rattle.flow.specs.declared.Target.{Target}
 use Rattle.flow.specs.Decode.{operands_at, flow_of, moved, target_of}
-use Rattle.flow.specs.Next.{flow_next}
+use Rattle.flow.proofs.Next.{flow_next}
 use Rattle.codes.specs.declared.Place.{Place}
 use Rattle.buffers.specs.declared.Way.{Way}
 use Rattle.buffers.specs.Tread.{Temps, Opens, sum_past, on_target, flowing, bounded, treads, tread_of}

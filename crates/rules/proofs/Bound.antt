@@ -17,7 +17,7 @@ use Rattle.flow.specs.declared.Flow.TheVariants.{Next, Jump, Branch, Return}
 use Rattle.flow.specs.declared.Target.{Target}
 use Rattle.flow.specs.declared.Target.TheVariants.{Legal, Illegal}
 use Rattle.flow.specs.Decode.{operands_at, flow_of, moved, target_of}
-use Rattle.flow.specs.Next.{legal}
+use Rattle.flow.proofs.Next.{legal}
 use Rattle.rules.specs.declared.Known.{Known}
 use Rattle.rules.specs.declared.Violation.{Violation}
 use Rattle.rules.specs.declared.Look.{Look}

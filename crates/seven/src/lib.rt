@@ -105,7 +105,7 @@ pub fn read_number(file: &[u8], at: usize) -> Number
     read_near_end(file, at)
 }
 
-#[derive(Drop)]
+#[derive(Clone, Copy)]
 pub enum Put {
     // The number stands there: the place after it.
     After(usize),

@@ -11,7 +11,7 @@ use lib.ListN.{length, get_or}
 use Rattle.tables.specs.Set.{size_of, move_of}
 use Rattle.flow.specs.declared.starts.Decoded.{Decoded}
 use Rattle.flow.specs.Walk.{walk_by, end_of, marks_of}
-use Rattle.flow.specs.Next.{body_fits}
+use Rattle.flow.proofs.Next.{body_fits}
 use Rattle.program.specs.declared.Input.{Input}
 use Rattle.program.specs.declared.Room.{Room}
 use Rattle.program.specs.Program.{Program, body_of}

@@ -17,7 +17,8 @@ use Rattle.program.specs.declared.Input.{Input}
 use Rattle.program.specs.declared.Room.{Room}
 use Rattle.program.specs.Program.{Program, body_of}
 use Rattle.program.specs.Refusals.{stack_input, is_taken, room_of}
-use Rattle.program.specs.Taken.{StackTaken, stack_taken, taken_is}
+use Rattle.program.specs.Taken.{StackTaken, taken_is}
+use Rattle.program.proofs.Taken.{stack_taken}
 use Rattle.rules.specs.declared.Walked.{Walked}
 use Rattle.rules.specs.Look.{Effects}
 use Rattle.effects.specs.Effects.{directory_of, known_by, known_of, given_back}

@@ -9,7 +9,7 @@ use lib.ListN.{length, get_or, set, take, drop, length-take, length-drop}
 use Rattle.cells.specs.Zeros.{zeros, zeros_are, length_zeros, any_zero}
 use Rattle.flow.specs.declared.starts.Decoded.{Decoded}
 use Rattle.flow.specs.Walk.{walk_by, end_of, mark_all, marks_of}
-use Rattle.flow.specs.Next.{marks_fit, marks_are}
+use Rattle.flow.proofs.Next.{marks_fit, marks_are}
 use Rattle.rules.specs.declared.Violation.{Violation}
 use Rattle.rules.specs.declared.Walked.{Walked}
 use Rattle.rules.specs.Look.{Effects, look_of}

@@ -5,7 +5,7 @@ use native.Mathlib.Omega.{arith}
 use borrow.Author.Rules.{rules}
 use borrow.Author.Tests.{eq-eqb}
 use Rattle.flow.specs.declared.Step.TheVariants.{Instruction}
-use Rattle.flow.specs.Laws.{stands, walk_is, walk_end}
+use Rattle.flow.proofs.Laws.{stands, walk_is, walk_end}
 use Rattle.flow.proofs.Marking.{skipped_first, skipped_then, skipped_on, skipped_last}
 use Rattle.flow.proofs.starts.has_ret.Goals as goal
 

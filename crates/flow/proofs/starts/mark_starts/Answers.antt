@@ -4,7 +4,7 @@ use mathlib.Core.Path.{◌∙◌, sym}
 use native.Mathlib.Omega.{arith}
 use borrow.Author.Rules.{rules}
 use Rattle.flow.specs.declared.Step.TheVariants.{End, Unknown, Truncated}
-use Rattle.flow.specs.Laws.{stands, walk_is, walk_end}
+use Rattle.flow.proofs.Laws.{stands, walk_is, walk_end}
 use Rattle.flow.proofs.Marking.{marked_first, marked_then, marked_on, marked_last}
 use Rattle.flow.proofs.starts.mark_starts.Goals as goal
 

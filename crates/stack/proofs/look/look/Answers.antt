@@ -5,7 +5,7 @@ use mathlib.Core.Path.{◌≡◌, refl, ◌∙◌, ap, sym}
 use native.Mathlib.Omega.{arith}
 use Rattle.tables.specs.Stored.{plain_fixed}
 use Rattle.flow.specs.Decode.{operands_at}
-use Rattle.flow.specs.Next.{flow_next}
+use Rattle.flow.proofs.Next.{flow_next}
 use Rattle.rules.specs.declared.Known.{Known}
 use Rattle.rules.proofs.Cases.{look_end}
 use Rattle.rules.proofs.Moving.{look_is, look_next}

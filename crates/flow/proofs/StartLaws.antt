@@ -8,7 +8,7 @@ use Rattle.flow.specs.declared.Step.{Step}
 use Rattle.flow.specs.declared.Step.TheVariants.{End, Unknown, Truncated, Instruction}
 use Rattle.flow.specs.Decode.{step_by}
 use Rattle.flow.specs.Walk.{Walk, stops, instr, on_step, walk_in, walk_by, mark_all, is_start}
-use Rattle.flow.specs.Laws.{stands}
+use Rattle.flow.proofs.Laws.{stands}
 
 -- `size` stands at `at`; the rest of the walk has no start at t, or has one with the size v
 marked_by : (at t size v : ℕ) (marks : List ℕ) (b c : Bool) → eqb t at ≡ b → (t ≡ at → size ≡ v) → t < length marks → cond c v (get_or (set marks at size) t 0) ≡ cond (cond b true c) v (get_or marks t 0)

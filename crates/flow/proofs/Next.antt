@@ -16,8 +16,8 @@ use Rattle.flow.specs.declared.Target.TheVariants.{Legal, Illegal}
 use Rattle.flow.specs.Decode.{step_by, word_at, flow_of, target_of}
 use Rattle.cells.specs.Zeros.{zeros, length_zeros, any_zero}
 use Rattle.flow.specs.Walk.{instr, on_step, walk_in, walk_by, end_of, mark_all, marks_of, is_start}
-use Rattle.flow.specs.Laws.{stands, end_only}
-use Rattle.flow.specs.Starts.{split, join, true_not_false, marked, begins}
+use Rattle.flow.proofs.Laws.{stands, end_only}
+use Rattle.flow.proofs.StartLaws.{split, join, true_not_false, marked, begins}
 
 -- a start of the body, or its length
 abbrev pub Standing : (ℕ → ℕ) → List ℕ → ℕ → Type 0
