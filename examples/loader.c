@@ -1,7 +1,7 @@
 // A small loader: reads a bench file, asks the desk, says in words whether the program may be loaded. Its status is 0 only if it may.
 //
-//   rt staticlib coppernudge
-//   cc -Wall -Wextra -Werror -Iinclude examples/loader.c target/staticlib/libcoppernudge.a -o loader
+//   (cd crates/coppernudge && rt lib)
+//   cc -Wall -Wextra -Werror -Iinclude examples/loader.c crates/coppernudge/out/libcoppernudge.a -o loader
 //   ./loader examples/heights-second-list.bench
 #include <stdio.h>
 #include <stdlib.h>

@@ -1,5 +1,5 @@
-// Coppernudge: checks a crane program before it is loaded. For C, over the static library libcoppernudge.a (x86-64), which `rt staticlib coppernudge`
-// writes to target/staticlib/.
+// Coppernudge: checks a crane program before it is loaded. For C, over the static library libcoppernudge.a (x86-64), which `rt lib`
+// in crates/coppernudge writes to crates/coppernudge/out/.
 #ifndef COPPERNUDGE_H
 #define COPPERNUDGE_H
 

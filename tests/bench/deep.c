@@ -1,7 +1,7 @@
 // What a pool call takes at its worst, on x86-64: the stack of the deepest visit (a chain of 128 functions), by painting a thread's stack and looking how
 // far the paint is gone; and the time of the longest walk of one body, a loop of 12,288 bytes that borrows one buffer a round at pool 65,534.
 //
-//   cc -O2 -Itests/driver tests/bench/deep.c target/staticlib/libprobe.a -lpthread -o deep && ./deep
+//   cc -O2 -Itests/driver tests/bench/deep.c crates/probe/out/libprobe.a -lpthread -o deep && ./deep
 #include <pthread.h>
 #include <stdio.h>
 #include <stdlib.h>

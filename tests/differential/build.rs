@@ -41,10 +41,10 @@ fn write_modules(root: &Path, out: &Path) {
     fs::write(out.join("document.rs"), lines).unwrap();
 }
 
-/// The archive that the variable names must be made for the processor that this runs on; the one that `rt staticlib` writes is for x86-64.
+/// The archive that the variable names must be made for the processor that this runs on; the one that `rt lib` writes is for x86-64.
 fn link_probes(root: &Path, out: &Path, name: &str, variable: &str) {
     println!("cargo:rerun-if-env-changed={variable}");
-    let given = env::var(variable).unwrap_or_else(|_| format!("target/staticlib/lib{name}.a"));
+    let given = env::var(variable).unwrap_or_else(|_| format!("crates/{name}/out/lib{name}.a"));
     let archive = root.join(given);
     println!("cargo:rerun-if-changed={}", archive.display());
     if let Err(why) = fs::copy(&archive, out.join(format!("lib{name}.a"))) {

@@ -4,7 +4,7 @@
 //
 // Last, the deepest visit, a chain of 128 functions, on a stack of 1 MiB that stands against such a page as well: what it took is printed.
 //
-//   cc -Iinclude tests/entry/entry.c target/staticlib/libcoppernudge.a -lpthread -o entry && ./entry
+//   cc -Iinclude tests/entry/entry.c crates/coppernudge/out/libcoppernudge.a -lpthread -o entry && ./entry
 #define _GNU_SOURCE
 #include <pthread.h>
 #include <stdio.h>

@@ -1,4 +1,6 @@
 // The one entry of the crane's loader, written in C (01, "Bench file, program and C entry"): a bench file's bytes and a buffer for the answer.
+#![tactic(auto)]
+
 ghost use Rattle.std.specs.Prelude.{◌≡◌, ◌*◌, ◌≤◌, length};
 ghost use Rattle.file.specs.Columns.{over};
 ghost use Rattle.coppernudge.specs.Entry.{twelve_of, bytes_of, entry_of};

@@ -1,11 +1,15 @@
 // Reads bench files from standard input, each written as runs of bytes (how often, low byte first, how many, and as many bytes), and prints
 // for each what reading it finds and a sum over all cells of the columns afterwards. An empty run ends a file; if it stands k times, the
 // k-th column is lent a cell short. A run that stands no times is a case for the writer.
+#![tactic(auto)]
+
 mod written;
 
-ghost use Rattle.std.specs.Prelude.{◌≡◌, ◌+◌, ◌<◌, ◌≤◌, length};
+ghost use Rattle.std.specs.Prelude.{◌≡◌, ◌+◌, ◌<◌, ◌≤◌, length, IfOk};
 
 use file::{Outcome, Sizes};
+use std::io;
+use std::io::Read;
 
 pub fn wide8(x: u8) -> usize
     ensures { result < 256 }
@@ -47,33 +51,34 @@ pub fn sum_u8(sum: u64, column: &[u8]) -> u64 {
     h
 }
 
-pub fn field(n: u64) {
-    io::write_all(1, b" ");
-    io::print_decimal(1, n);
+pub fn field(rt: &impl Print, n: u64) -> io::Result<()> {
+    rt.write_all(b" ")?;
+    rt.print(n)
 }
 
-fn show_sizes(s: Sizes) {
-    io::write_all(1, b"READ");
-    field(s.pool as u64);
-    field(s.rows as u64);
-    field(s.functions as u64);
-    field(s.descriptors as u64);
-    field(s.entries as u64);
-    field(s.code as u64);
+fn show_sizes(rt: &impl Print, s: Sizes) -> io::Result<()> {
+    rt.write_all(b"READ")?;
+    field(rt, s.pool as u64)?;
+    field(rt, s.rows as u64)?;
+    field(rt, s.functions as u64)?;
+    field(rt, s.descriptors as u64)?;
+    field(rt, s.entries as u64)?;
+    field(rt, s.code as u64)
 }
 
-fn show_outcome(o: Outcome) {
+fn show_outcome(rt: &impl Print, o: Outcome) -> io::Result<()> {
     match o {
-        Outcome::Read(s) => show_sizes(s),
+        Outcome::Read(s) => show_sizes(rt, s),
         Outcome::Refused { number, place } => {
-            io::write_all(1, b"INPUT");
-            field(number as u64);
-            field(place as u64);
+            rt.write_all(b"INPUT")?;
+            field(rt, number as u64)?;
+            field(rt, place as u64)
         }
     }
 }
 
 fn show_sum(
+    rt: &impl Print,
     ids: &[u16],
     counts: &[u16],
     flags: &[u16],
@@ -86,17 +91,18 @@ fn show_sum(
     targets: &[u16],
     entries: &[u16],
     code: &[u8],
-) {
+) -> io::Result<()> {
     let rows = sum_u16(sum_u16(sum_u16(0, ids), counts), flags);
     let numbers = sum_u16(sum_u16(sum_u16(rows, functions), parameters), maxima);
     let bodies = sum_usize(sum_usize(numbers, offsets), lengths);
     let rest = sum_u16(sum_u16(sum_u16(bodies, types), targets), entries);
-    field(sum_u8(rest, code));
-    io::write_all(1, b"\n");
+    field(rt, sum_u8(rest, code))?;
+    rt.write_all(b"\n")
 }
 
 // Reads into the lent columns, and shows a sum over all of their cells.
 fn show_lent(
+    rt: &impl Print,
     ids: &mut [u16],
     counts: &mut [u16],
     flags: &mut [u16],
@@ -110,15 +116,18 @@ fn show_lent(
     entries: &mut [u16],
     code: &mut [u8],
     file: &[u8],
-) {
-    show_outcome(file::read_file(
-        ids, counts, flags, functions, parameters, maxima, offsets, lengths, types, targets,
-        entries, code, file,
-    ));
+) -> io::Result<()> {
+    show_outcome(
+        rt,
+        file::read_file(
+            ids, counts, flags, functions, parameters, maxima, offsets, lengths, types, targets,
+            entries, code, file,
+        ),
+    )?;
     show_sum(
-        ids, counts, flags, functions, parameters, maxima, offsets, lengths, types, targets,
+        rt, ids, counts, flags, functions, parameters, maxima, offsets, lengths, types, targets,
         entries, code,
-    );
+    )
 }
 
 // Of a column's cells all but one, where it is the short one.
@@ -134,7 +143,7 @@ fn cells_of(limit: usize, column: usize, short: usize) -> usize
 }
 
 // Every column starts with sevens, so that a spare cell that changed shows in the sum. One column may be a cell short.
-fn show(file: &[u8], short: usize) {
+fn show(rt: &impl Print, file: &[u8], short: usize) -> io::Result<()> {
     let mut ids = [7u16; 6144];
     let mut counts = [7u16; 6144];
     let mut flags = [7u16; 6144];
@@ -160,6 +169,7 @@ fn show(file: &[u8], short: usize) {
     let n10 = cells_of(32, 11, short);
     let n11 = cells_of(12288, 12, short);
     show_lent(
+        rt,
         &mut ids[..n0],
         &mut counts[..n1],
         &mut flags[..n2],
@@ -173,7 +183,7 @@ fn show(file: &[u8], short: usize) {
         &mut entries[..n10],
         &mut code[..n11],
         file,
-    );
+    )
 }
 
 // One run of bytes at the end of the file so far; what does not fit is left out.
@@ -213,36 +223,38 @@ fn append_runs(
     end
 }
 
-fn show_front(file: &[u8], size: usize, short: usize) {
+fn show_front(rt: &impl Print, file: &[u8], size: usize, short: usize) -> io::Result<()> {
     if size <= file.len() {
-        show(&file[..size], short);
+        show(rt, &file[..size], short)?;
     }
+    Ok(())
 }
 
 // The size of the file after a run; an empty one shows it, and one that stands no times leaves it as it is.
 fn after_run(
+    rt: &impl Print,
     file: &mut [u8; 70000],
     size: usize,
     script: &[u8],
     from: usize,
     count: usize,
     times: usize,
-) -> usize
+) -> io::Result<usize>
     requires { (size ≤ 70000) × ((count < 256) × (from + 256 < 18446744073709551615)) }
-    ensures { result ≤ 70000 }
+    ensures { IfOk result (λ end. end ≤ 70000) }
 {
     if count == 0 {
-        show_front(file, size, times);
-        return 0;
+        show_front(rt, file, size, times)?;
+        return Ok(0);
     }
     if times == 0 {
-        written::show_case(script, from);
-        return size;
+        written::show_case(rt, script, from)?;
+        return Ok(size);
     }
-    append_runs(file, size, script, from, count, times)
+    Ok(append_runs(file, size, script, from, count, times))
 }
 
-fn run(script: &[u8])
+fn run(rt: &impl Print, script: &[u8]) -> io::Result<()>
     requires { length script.now ≤ 65536 }
 {
     let mut file = [0u8; 70000];
@@ -251,13 +263,33 @@ fn run(script: &[u8])
     while at < script.len() {
         let times = wide8(cells::u8_at(script, at)) + 256 * wide8(cells::u8_at(script, at + 1));
         let count = wide8(cells::u8_at(script, at + 2));
-        size = after_run(&mut file, size, script, at + 3, count, times);
+        size = after_run(rt, &mut file, size, script, at + 3, count, times)?;
         at = at + 3 + count;
     }
+    Ok(())
 }
 
-fn main() {
+// Reads until the buffer is full, the input ends or a read fails, and says how many bytes it put at the front.
+fn read_full<R: Read>(input: &mut R, bytes: &mut [u8]) -> usize
+    ensures { result ≤ length bytes.new }
+{
+    let mut done = 0;
+    while done < bytes.len() {
+        match input.read(&mut bytes[done..]) {
+            Ok(n) => {
+                if n == 0 {
+                    break;
+                }
+                done += n;
+            }
+            Err(_) => break,
+        }
+    }
+    done
+}
+
+fn main(rt: HostRuntime) -> io::Result<()> {
     let mut script = [0u8; 65536];
-    let n = io::read_full(0, &mut script);
-    run(&script[..n]);
+    let n = read_full(&mut rt.stdin(), &mut script);
+    run(&rt, &script[..n])
 }

@@ -5,6 +5,7 @@ ghost use Rattle.std.specs.Prelude.{◌<◌};
 
 use crate::{field, sum_u8, wide8};
 use file_writer::Wrote;
+use std::io;
 
 // No script is as long as 2 to the power of 24.
 fn number(script: &[u8], from: usize, index: usize) -> usize
@@ -82,23 +83,22 @@ fn write(
     )
 }
 
-fn show_wrote(wrote: Wrote) {
+fn show_wrote(rt: &impl Print, wrote: Wrote) -> io::Result<()> {
     match wrote {
         Wrote::Length(size) => {
-            io::write_all(1, b"WROTE");
-            field(size as u64);
+            rt.write_all(b"WROTE")?;
+            field(rt, size as u64)
         }
         Wrote::Refused { number } => {
-            io::write_all(1, b"REFUSED");
-            field(number as u64);
+            rt.write_all(b"REFUSED")?;
+            field(rt, number as u64)
         }
-        Wrote::NoRoom => {
-            io::write_all(1, b"NO ROOM");
-        }
+        Wrote::NoRoom => rt.write_all(b"NO ROOM"),
     }
 }
 
 fn write_into(
+    rt: &impl Print,
     out: &mut [u8],
     room: usize,
     words: &[u16; 6145],
@@ -107,26 +107,30 @@ fn write_into(
     code: &[u8; 12289],
     script: &[u8],
     from: usize,
-) {
+) -> io::Result<()> {
     if room <= out.len() {
-        show_wrote(write(
-            &mut out[..room],
-            words,
-            offsets,
-            lengths,
-            code,
-            script,
-            from,
-        ));
+        show_wrote(
+            rt,
+            write(
+                &mut out[..room],
+                words,
+                offsets,
+                lengths,
+                code,
+                script,
+                from,
+            ),
+        )?;
     }
+    Ok(())
 }
 
-fn show_sum(out: &[u8; 70000]) {
-    field(sum_u8(0, out));
+fn show_sum(rt: &impl Print, out: &[u8; 70000]) -> io::Result<()> {
+    field(rt, sum_u8(0, out))
 }
 
 // The buffer is full of sevens, and its sum is over all of it, so that a byte that should have stayed shows.
-pub fn show_case(script: &[u8], from: usize) {
+pub fn show_case(rt: &impl Print, script: &[u8], from: usize) -> io::Result<()> {
     let mut words = [0u16; 6145];
     let mut offsets = [1usize; 129];
     let mut lengths = [2usize; 129];
@@ -140,8 +144,8 @@ pub fn show_case(script: &[u8], from: usize) {
     put_usize(&mut offsets, row, offset);
     put_usize(&mut lengths, row, length);
     write_into(
-        &mut out, room, &words, &offsets, &lengths, &code, script, from,
-    );
-    show_sum(&out);
-    io::write_all(1, b"\n");
+        rt, &mut out, room, &words, &offsets, &lengths, &code, script, from,
+    )?;
+    show_sum(rt, &out)?;
+    rt.write_all(b"\n")
 }

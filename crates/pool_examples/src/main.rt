@@ -1,26 +1,29 @@
 // 01's examples of the pool check, run: a line for each with number, function, offset, a, b, c. The scratch holds junk before each call; what is not
 // zero after it is counted at the line's end.
+#![tactic(auto)]
+
 ghost use Rattle.std.specs.Prelude.{◌≤◌};
 
 use answers::Fields;
+use std::io;
 
-fn number(n: u32) {
-    io::write_all(1, b" ");
-    io::print_decimal(1, n as u64);
+fn number(rt: &impl Print, n: u32) -> io::Result<()> {
+    rt.write_all(b" ")?;
+    rt.print(n as u64)
 }
 
-fn line(name: &[u8], f: Fields, left: usize) {
-    io::write_all(1, name);
-    io::write_all(1, b":");
-    number(f.number);
-    number(f.function);
-    number(f.offset);
-    number(f.a);
-    number(f.b);
-    number(f.c);
-    io::write_all(1, b", cells not zero: ");
-    io::print_decimal(1, left as u64);
-    io::write_all(1, b"\n");
+fn line(rt: &impl Print, name: &[u8], f: Fields, left: usize) -> io::Result<()> {
+    rt.write_all(name)?;
+    rt.write_all(b":")?;
+    number(rt, f.number)?;
+    number(rt, f.function)?;
+    number(rt, f.offset)?;
+    number(rt, f.a)?;
+    number(rt, f.b)?;
+    number(rt, f.c)?;
+    rt.write_all(b", cells not zero: ")?;
+    rt.print(left as u64)?;
+    rt.write_all(b"\n")
 }
 
 // One more, where it is found.
@@ -72,6 +75,7 @@ fn not_zero32(column: &[u32]) -> usize
 
 // Functions 1, 2, .. without list rows and descriptors, with scratch of junk and some to spare.
 fn run(
+    rt: &impl Print,
     name: &[u8],
     ids: &[u16],
     offsets: &[usize],
@@ -79,7 +83,7 @@ fn run(
     code: &[u8],
     entries: &[u16],
     pool: u16,
-) {
+) -> io::Result<()> {
     let mut marks = [7u8; 40];
     let mut depths = [7u32; 41];
     let mut queue = [7u16; 82];
@@ -107,14 +111,24 @@ fn run(
     );
     let mut left = not_zero8(&marks) + not_zero8(&cells);
     left = left + not_zero16(&queue) + not_zero16(&queue_depths) + not_zero32(&depths);
-    line(name, pool::fields(verdict), left);
+    line(rt, name, pool::fields(verdict), left)
 }
 
-fn main() {
+fn main(rt: HostRuntime) -> io::Result<()> {
     let grows = b"\xBC\x00\x00\x00\x00\x7C\xF8\xFF";
-    run(b"a growing loop, pool 3", &[1], &[0], &[8], grows, &[1], 3);
-    run(b"without entries", &[1], &[0], &[8], grows, &[], 3);
     run(
+        &rt,
+        b"a growing loop, pool 3",
+        &[1],
+        &[0],
+        &[8],
+        grows,
+        &[1],
+        3,
+    )?;
+    run(&rt, b"without entries", &[1], &[0], &[8], grows, &[], 3)?;
+    run(
+        &rt,
         b"given back, pool 0",
         &[1],
         &[0],
@@ -122,9 +136,10 @@ fn main() {
         b"\xC0\x00\x00\x00\x00",
         &[1],
         0,
-    );
+    )?;
     let calls = b"\x84\x02\x00\x00\x00\xBC\x00\x00\x00\x00\xBC\x00\x00\x00\x00";
     run(
+        &rt,
         b"1 calls 2, pool 2",
         &[1, 2],
         &[0, 10],
@@ -132,8 +147,9 @@ fn main() {
         calls,
         &[1],
         2,
-    );
+    )?;
     run(
+        &rt,
         b"1 calls 2, pool 1",
         &[1, 2],
         &[0, 10],
@@ -141,9 +157,10 @@ fn main() {
         calls,
         &[1],
         1,
-    );
+    )?;
     let each_other = b"\x84\x02\x00\x00\x00\x84\x01\x00\x00\x00";
     run(
+        &rt,
         b"each other",
         &[1, 2],
         &[0, 5],
@@ -151,6 +168,6 @@ fn main() {
         each_other,
         &[1],
         9,
-    );
-    run(b"pool 65535", &[1], &[0], &[8], grows, &[1], 65535);
+    )?;
+    run(&rt, b"pool 65535", &[1], &[0], &[8], grows, &[1], 65535)
 }

@@ -1,5 +1,7 @@
 // The leaves for the tests of other languages: each function hands numbers and slices to a leaf and packs what it answers into one number,
 // as tests/driver/probe.h says. Nothing here is part of the product.
+#![tactic(auto)]
+
 use answers::Fields;
 use codes::Entry;
 use flow::starts::Decoded;

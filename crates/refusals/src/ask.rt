@@ -2,6 +2,7 @@
 ghost use Rattle.std.specs.Prelude.{◌≤◌, ◌≡◌, length};
 
 use program::{Input, Room};
+use std::io;
 
 // The lengths of all columns, of scratch and of the callee cells.
 #[derive(Drop)]
@@ -70,11 +71,11 @@ fn wide(n: u32) -> u64 {
     n as u64
 }
 
-fn print_answer(call: &[u8], answer: Input) {
-    io::write_all(1, call);
-    io::print_decimal(1, wide(program::number(answer)));
-    io::write_all(1, b" ");
-    io::print_decimal(1, program::place(answer) as u64);
+fn print_answer(rt: &impl Print, call: &[u8], answer: Input) -> io::Result<()> {
+    rt.write_all(call)?;
+    rt.print(wide(program::number(answer)))?;
+    rt.write_all(b" ")?;
+    rt.print(program::place(answer) as u64)
 }
 
 fn rising() -> [u16; 6145]
@@ -91,6 +92,7 @@ fn rising() -> [u16; 6145]
 
 // Asks both calls.
 fn ask(
+    rt: &impl Print,
     name: &[u8],
     ids: &[u16],
     parameters: &[u16],
@@ -107,21 +109,28 @@ fn ask(
     pool: u16,
     room: Room,
     cells: usize,
-) {
+) -> io::Result<()> {
+    let room_again = Room {
+        marks: room.marks,
+        depths: room.depths,
+        queue: room.queue,
+        queue_depths: room.queue_depths,
+    };
     let stack = program::stack_input(
         ids, parameters, maxima, offsets, lengths, list_ids, counts, flags, code, room,
     );
-    let PoolGives = program::pool_input(
+    let pooled = program::pool_input(
         ids, parameters, maxima, offsets, lengths, list_ids, counts, flags, code, types, callees,
-        entries, pool, room, cells,
+        entries, pool, room_again, cells,
     );
-    io::write_all(1, name);
-    print_answer(b": stack ", stack);
-    print_answer(b", pool ", PoolGives);
-    io::write_all(1, b"\n");
+    rt.write_all(name)?;
+    print_answer(rt, b": stack ", stack)?;
+    print_answer(rt, b", pool ", pooled)?;
+    rt.write_all(b"\n")
 }
 
 fn ask_fronts(
+    rt: &impl Print,
     name: &[u8],
     n: Sizes,
     ids: &[u16],
@@ -136,8 +145,9 @@ fn ask_fronts(
     types: &[u16],
     callees: &[u16],
     entries: &[u16],
-) {
+) -> io::Result<()> {
     ask(
+        rt,
         name,
         front(ids, n.functions),
         front(parameters, n.parameters),
@@ -154,11 +164,11 @@ fn ask_fronts(
         0,
         n.room,
         n.cells,
-    );
+    )
 }
 
 // A program of those lengths: ids rise, flags are 0, every body is empty.
-pub fn ask_sizes(name: &[u8], n: Sizes) {
+pub fn ask_sizes(rt: &impl Print, name: &[u8], n: Sizes) -> io::Result<()> {
     let ids = rising();
     let list_ids = rising();
     let parameters = [0u16; 160];
@@ -172,6 +182,7 @@ pub fn ask_sizes(name: &[u8], n: Sizes) {
     let callees = [0u16; 257];
     let entries = [0u16; 33];
     ask_fronts(
+        rt,
         name,
         n,
         &ids,
@@ -186,10 +197,11 @@ pub fn ask_sizes(name: &[u8], n: Sizes) {
         &types,
         &callees,
         &entries,
-    );
+    )
 }
 
 fn ask_hundred(
+    rt: &impl Print,
     name: &[u8],
     ids: &[u16],
     list_ids: &[u16],
@@ -197,7 +209,7 @@ fn ask_hundred(
     offsets: &[usize],
     lengths: &[usize],
     pool: u16,
-) {
+) -> io::Result<()> {
     let parameters = [0u16; 128];
     let maxima = [0u16; 128];
     let counts = [0u16; 6144];
@@ -206,6 +218,7 @@ fn ask_hundred(
     let callees = [0u16; 256];
     let entries = [0u16; 32];
     ask(
+        rt,
         name,
         front(ids, 128),
         &parameters,
@@ -222,10 +235,11 @@ fn ask_hundred(
         pool,
         room_for(100),
         16384,
-    );
+    )
 }
 
 fn ask_changed(
+    rt: &impl Print,
     name: &[u8],
     change: Change,
     ids: &mut [u16],
@@ -233,23 +247,33 @@ fn ask_changed(
     flags: &mut [u16],
     offsets: &mut [usize],
     lengths: &mut [usize],
-) {
+) -> io::Result<()> {
     cells::put_u16(ids, change.id_row, change.id);
     cells::put_u16(list_ids, change.list_row, change.list_id);
     cells::put_u16(flags, change.flag_row, change.flag);
     put_usize(offsets, change.body_row, change.offset);
     put_usize(lengths, change.body_row, change.length);
-    ask_hundred(name, ids, list_ids, flags, offsets, lengths, change.pool);
+    ask_hundred(
+        rt,
+        name,
+        ids,
+        list_ids,
+        flags,
+        offsets,
+        lengths,
+        change.pool,
+    )
 }
 
 // 128 functions, 6,144 rows and 100 code bytes, with one change.
-pub fn ask_change(name: &[u8], change: Change) {
+pub fn ask_change(rt: &impl Print, name: &[u8], change: Change) -> io::Result<()> {
     let mut ids = rising();
     let mut list_ids = rising();
     let mut flags = [0u16; 6144];
     let mut offsets = [0usize; 128];
     let mut lengths = [0usize; 128];
     ask_changed(
+        rt,
         name,
         change,
         &mut ids,
@@ -257,7 +281,7 @@ pub fn ask_change(name: &[u8], change: Change) {
         &mut flags,
         &mut offsets,
         &mut lengths,
-    );
+    )
 }
 
 pub fn room_for(code: usize) -> Room {

@@ -1,8 +1,11 @@
 // The refusals 30 to 35, asked of both calls at their limits.
+#![tactic(auto)]
+
 mod ask;
 
 use ask::{Change, Sizes, ask_change, ask_sizes, room_for};
 use program::Room;
+use std::io;
 
 // Every table at its limit, with the room that 01 asks for.
 fn at_limits() -> Sizes {
@@ -69,47 +72,47 @@ fn code_of(bytes: usize) -> Sizes {
 }
 
 // 31: counts at their limits and one past them.
-fn ask_counts() {
-    ask_sizes(b"nothing at all", empty());
-    ask_sizes(b"every limit", at_limits());
-    ask_sizes(b"129 functions", table_of(129));
-    ask_sizes(b"127 functions", table_of(127));
-    ask_sizes(b"6,145 rows", list_of(6145));
-    ask_sizes(b"6,143 rows", list_of(6143));
-    ask_sizes(b"12,289 code bytes", code_of(12289));
-    ask_sizes(b"12,287 code bytes", code_of(12287));
+fn ask_counts(rt: &impl Print) -> io::Result<()> {
+    ask_sizes(rt, b"nothing at all", empty())?;
+    ask_sizes(rt, b"every limit", at_limits())?;
+    ask_sizes(rt, b"129 functions", table_of(129))?;
+    ask_sizes(rt, b"127 functions", table_of(127))?;
+    ask_sizes(rt, b"6,145 rows", list_of(6145))?;
+    ask_sizes(rt, b"6,143 rows", list_of(6143))?;
+    ask_sizes(rt, b"12,289 code bytes", code_of(12289))?;
+    ask_sizes(rt, b"12,287 code bytes", code_of(12287))?;
     let mut n = at_limits();
     n.types = 257;
     n.callees = 257;
-    ask_sizes(b"257 descriptors", n);
+    ask_sizes(rt, b"257 descriptors", n)?;
     n = at_limits();
     n.entries = 33;
-    ask_sizes(b"33 entries", n);
+    ask_sizes(rt, b"33 entries", n)
 }
 
 // 31: one column of a table a row longer or shorter.
-fn ask_columns() {
+fn ask_columns(rt: &impl Print) -> io::Result<()> {
     let mut n = at_limits();
     n.parameters = 127;
-    ask_sizes(b"parameters short", n);
+    ask_sizes(rt, b"parameters short", n)?;
     n = at_limits();
     n.maxima = 129;
-    ask_sizes(b"maxima long", n);
+    ask_sizes(rt, b"maxima long", n)?;
     n = at_limits();
     n.offsets = 127;
-    ask_sizes(b"offsets short", n);
+    ask_sizes(rt, b"offsets short", n)?;
     n = at_limits();
     n.lengths = 129;
-    ask_sizes(b"lengths long", n);
+    ask_sizes(rt, b"lengths long", n)?;
     n = at_limits();
     n.counts = 6143;
-    ask_sizes(b"counts short", n);
+    ask_sizes(rt, b"counts short", n)?;
     n = at_limits();
     n.flags = 6143;
-    ask_sizes(b"flags short", n);
+    ask_sizes(rt, b"flags short", n)?;
     n = at_limits();
     n.callees = 255;
-    ask_sizes(b"callees short", n);
+    ask_sizes(rt, b"callees short", n)
 }
 
 fn room_of(marks: usize, depths: usize, queue: usize, queue_depths: usize) -> Sizes {
@@ -125,28 +128,32 @@ fn room_of(marks: usize, depths: usize, queue: usize, queue_depths: usize) -> Si
 }
 
 // 30: room that is one cell short, and room to spare.
-fn ask_room() {
-    ask_sizes(b"marks short", room_of(12287, 12289, 24578, 24578));
-    ask_sizes(b"depths short", room_of(12288, 12288, 24578, 24578));
-    ask_sizes(b"queue short", room_of(12288, 12289, 24577, 24578));
-    ask_sizes(b"queue depths short", room_of(12288, 12289, 24578, 24577));
+fn ask_room(rt: &impl Print) -> io::Result<()> {
+    ask_sizes(rt, b"marks short", room_of(12287, 12289, 24578, 24578))?;
+    ask_sizes(rt, b"depths short", room_of(12288, 12288, 24578, 24578))?;
+    ask_sizes(rt, b"queue short", room_of(12288, 12289, 24577, 24578))?;
+    ask_sizes(
+        rt,
+        b"queue depths short",
+        room_of(12288, 12289, 24578, 24577),
+    )
 }
 
-fn ask_more_room() {
+fn ask_more_room(rt: &impl Print) -> io::Result<()> {
     let mut n = at_limits();
     n.cells = 16383;
-    ask_sizes(b"cells short", n);
+    ask_sizes(rt, b"cells short", n)?;
     n = code_of(12287);
     n.room = room_for(12288);
     n.cells = 20000;
-    ask_sizes(b"room to spare", n);
+    ask_sizes(rt, b"room to spare", n)?;
     n = table_of(129);
     n.room = room_for(0);
-    ask_sizes(b"31 before 30", n);
+    ask_sizes(rt, b"31 before 30", n)?;
     n = at_limits();
     n.room = room_for(0);
     n.entries = 33;
-    ask_sizes(b"33 entries and no room", n);
+    ask_sizes(rt, b"33 entries and no room", n)
 }
 
 // Rows past every table, and a pool that is fine.
@@ -195,68 +202,69 @@ fn body_change(row: usize, offset: usize, length: usize) -> Change {
 }
 
 // 34: ids that do not rise, and flags above 1.
-fn ask_list() {
-    ask_change(b"row 1 equal to row 0", list_change(1, 0));
-    ask_change(b"row 0 above row 1", list_change(0, 1));
-    ask_change(b"last row equal", list_change(6143, 6142));
-    ask_change(b"last row higher", list_change(6143, 65535));
-    ask_change(b"flag 1 in row 0", flag_change(0, 1));
-    ask_change(b"flag 2 in row 0", flag_change(0, 2));
-    ask_change(b"flag 256 in the last row", flag_change(6143, 256));
+fn ask_list(rt: &impl Print) -> io::Result<()> {
+    ask_change(rt, b"row 1 equal to row 0", list_change(1, 0))?;
+    ask_change(rt, b"row 0 above row 1", list_change(0, 1))?;
+    ask_change(rt, b"last row equal", list_change(6143, 6142))?;
+    ask_change(rt, b"last row higher", list_change(6143, 65535))?;
+    ask_change(rt, b"flag 1 in row 0", flag_change(0, 1))?;
+    ask_change(rt, b"flag 2 in row 0", flag_change(0, 2))?;
+    ask_change(rt, b"flag 256 in the last row", flag_change(6143, 256))
 }
 
 // 32: the later row of the pair.
-fn ask_ids() {
-    ask_change(b"row 1 as row 0", id_change(1, 0));
-    ask_change(b"last row as row 0", id_change(127, 0));
-    ask_change(b"row 0 as the last row", id_change(0, 127));
-    ask_change(b"row 60 as row 59", id_change(60, 59));
-    ask_change(b"an id of 65535", id_change(5, 65535));
-    ask_change(b"an id whose bit is next to another", id_change(0, 129));
+fn ask_ids(rt: &impl Print) -> io::Result<()> {
+    ask_change(rt, b"row 1 as row 0", id_change(1, 0))?;
+    ask_change(rt, b"last row as row 0", id_change(127, 0))?;
+    ask_change(rt, b"row 0 as the last row", id_change(0, 127))?;
+    ask_change(rt, b"row 60 as row 59", id_change(60, 59))?;
+    ask_change(rt, b"an id of 65535", id_change(5, 65535))?;
+    ask_change(rt, b"an id whose bit is next to another", id_change(0, 129))
 }
 
 // 33: bodies at the end of 100 code bytes.
-fn ask_bodies() {
-    ask_change(b"the whole code", body_change(0, 0, 100));
-    ask_change(b"one byte too long", body_change(0, 0, 101));
-    ask_change(b"offset 100, length 0", body_change(127, 100, 0));
-    ask_change(b"offset 100, length 1", body_change(127, 100, 1));
-    ask_change(b"offset 101, length 0", body_change(127, 101, 0));
+fn ask_bodies(rt: &impl Print) -> io::Result<()> {
+    ask_change(rt, b"the whole code", body_change(0, 0, 100))?;
+    ask_change(rt, b"one byte too long", body_change(0, 0, 101))?;
+    ask_change(rt, b"offset 100, length 0", body_change(127, 100, 0))?;
+    ask_change(rt, b"offset 100, length 1", body_change(127, 100, 1))?;
+    ask_change(rt, b"offset 101, length 0", body_change(127, 101, 0))?;
     ask_change(
+        rt,
         b"a sum that wraps to 50",
         body_change(64, 100, 18446744073709551566),
-    );
+    )
 }
 
 // 35, and one refusal before another.
-fn ask_order() {
+fn ask_order(rt: &impl Print) -> io::Result<()> {
     let mut large = unchanged();
     large.pool = 65535;
-    ask_change(b"pool 65535", large);
+    ask_change(rt, b"pool 65535", large)?;
     let mut outside = body_change(3, 101, 0);
     outside.pool = 65535;
-    ask_change(b"33 before 35", outside);
+    ask_change(rt, b"33 before 35", outside)?;
     let mut repeated = body_change(3, 101, 0);
     repeated.id_row = 9;
     repeated.id = 8;
-    ask_change(b"32 before 33", repeated);
+    ask_change(rt, b"32 before 33", repeated)?;
     let mut flagged = id_change(9, 8);
     flagged.flag_row = 17;
     flagged.flag = 2;
-    ask_change(b"34 before 32", flagged);
+    ask_change(rt, b"34 before 32", flagged)?;
     let mut twice = list_change(20, 3);
     twice.flag_row = 10;
     twice.flag = 2;
-    ask_change(b"34 at the lower row", twice);
+    ask_change(rt, b"34 at the lower row", twice)
 }
 
-fn main() {
-    ask_counts();
-    ask_columns();
-    ask_room();
-    ask_more_room();
-    ask_list();
-    ask_ids();
-    ask_bodies();
-    ask_order();
+fn main(rt: HostRuntime) -> io::Result<()> {
+    ask_counts(&rt)?;
+    ask_columns(&rt)?;
+    ask_room(&rt)?;
+    ask_more_room(&rt)?;
+    ask_list(&rt)?;
+    ask_ids(&rt)?;
+    ask_bodies(&rt)?;
+    ask_order(&rt)
 }

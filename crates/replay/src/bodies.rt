@@ -39,7 +39,7 @@ fn same_end(d: Decoded, outcome: u8, offset: usize, byte: u8) -> bool {
 // One entry of bodies.bin, whose body has n bytes and begins after the place at.
 fn same_body(sizes: &[u8; 256], data: &[u8], at: usize, n: usize) -> bool {
     let body = tally::part(data, at, n);
-    let after = std::num::wrapping_add_usize(at, n);
+    let after = at.wrapping_add(n);
     let mut marks = [0u8; 256];
     let decoded = flow::starts::mark_starts(&mut marks, sizes, body);
     let outcome = tally::byte(data, after, 0);
@@ -47,11 +47,11 @@ fn same_body(sizes: &[u8; 256], data: &[u8], at: usize, n: usize) -> bool {
     if !same_end(decoded, outcome, offset, tally::byte(data, after, 2)) {
         return false;
     }
-    let recorded = tally::part(data, std::num::wrapping_add_usize(after, 3), n);
+    let recorded = tally::part(data, after.wrapping_add(3), n);
     if !check::same(tally::part(&marks, 0, n), recorded) {
         return false;
     }
-    let ret = tally::byte(data, std::num::wrapping_add_usize(after, n), 3);
+    let ret = tally::byte(data, after.wrapping_add(n), 3);
     flow::starts::has_ret(sizes, body) == (ret == 1)
 }
 
@@ -101,7 +101,7 @@ fn same_target(target: Target, legal: u8, recorded: u64) -> bool {
 fn same_way(marks: &[u8], body: &[u8], offset: usize, way: u8, legal: u8, recorded: u64) -> bool {
     let op = cells::u8_at(body, offset);
     let size = cells::u8_at(marks, offset);
-    let next = std::num::wrapping_add_usize(offset, wide(size));
+    let next = offset.wrapping_add(wide(size));
     match flow::flow_of(op, flow::operands_of(body, offset, size)) {
         Flow::Next => way == 0,
         Flow::Return => way == 3,
@@ -137,14 +137,14 @@ fn wide16(x: u16) -> u64
 // One entry of targets.bin, whose body has n bytes and begins at the place at.
 fn same_branch(sizes: &[u8; 256], data: &[u8], at: usize, n: usize) -> bool {
     let body = tally::part(data, at, n);
-    let after = std::num::wrapping_add_usize(at, n);
+    let after = at.wrapping_add(n);
     let mut marks = [0u8; 256];
     flow::starts::mark_starts(&mut marks, sizes, body);
     let offset = wide(tally::byte(data, after, 0));
     let way = tally::byte(data, after, 1);
     let legal = tally::byte(data, after, 2);
-    let low = wide16(tally::word(data, std::num::wrapping_add_usize(after, 3)));
-    let high = wide16(tally::word(data, std::num::wrapping_add_usize(after, 5)));
+    let low = wide16(tally::word(data, after.wrapping_add(3)));
+    let high = wide16(tally::word(data, after.wrapping_add(5)));
     same_way(&marks, body, offset, way, legal, low + high * 65536)
 }
 

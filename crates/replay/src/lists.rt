@@ -14,7 +14,7 @@ fn column(data: &[u8], offset: usize) -> [u16; 1024] {
 }
 
 // The list in columns, and how many rows it has.
-#[derive(Drop)]
+#[derive(Clone, Copy)]
 pub struct Columns {
     pub ids: [u16; 1024],
     pub counts: [u16; 1024],
@@ -82,7 +82,7 @@ pub fn replay(data: &[u8]) -> Tally {
         );
         t = tally::one_more(t, same);
         if listed {
-            row = std::num::wrapping_add_usize(row, 1);
+            row = row.wrapping_add(1);
         }
         id += 1;
     }

@@ -1,5 +1,7 @@
 // Replays document 000's recorded answers (data/README.md) over the leaves, without Rust: a line for each file, with the number of its
 // entries and of the differences found.
+#![tactic(auto)]
+
 mod bodies;
 mod lists;
 mod pools;
@@ -7,50 +9,90 @@ mod programs;
 mod rows;
 mod tally;
 
+ghost use Rattle.std.specs.Prelude.{◌≤◌, length, IfOk};
+
+use std::io::Read;
+use std::rt::Files;
+use std::{fs, io};
 use tally::Tally;
 
-fn load(path: &[u8], buffer: &mut [u8]) -> usize {
-    let file = os::open_read(path);
-    if file < 0 {
-        os::fail(path);
-        return 0;
+// Reads until the buffer is full, the input ends or a read fails, and says how many bytes it put at the front.
+fn read_full<R: Read>(input: &mut R, bytes: &mut [u8]) -> usize
+    ensures { result ≤ length bytes.new }
+{
+    let mut done = 0;
+    while done < bytes.len() {
+        match input.read(&mut bytes[done..]) {
+            Ok(n) => {
+                if n == 0 {
+                    break;
+                }
+                done += n;
+            }
+            Err(_) => break,
+        }
     }
-    let n = io::read_full(file, buffer);
-    libc::close(file);
-    n
+    done
 }
 
-fn report(name: &[u8], t: Tally) {
-    io::write_all(1, name);
-    io::write_all(1, b": ");
-    io::print_decimal(1, t.entries);
-    io::write_all(1, b" entries, ");
-    io::print_decimal(1, t.differences);
-    io::write_all(1, b" differences\n");
+// How many bytes of the file it put at the front of the buffer; a file that does not open is named on standard error, and counts as empty.
+fn load(rt: &(impl Files + Eprint), path: &str, buffer: &mut [u8]) -> io::Result<usize>
+    ensures { IfOk result (λ n. n ≤ length buffer.new) }
+{
+    match fs::open(rt, path) {
+        Ok(file) => {
+            let mut file = file;
+            Ok(read_full(&mut file, buffer))
+        }
+        Err(e) => {
+            eprintln!(rt; "{path}: {e}")?;
+            Ok(0)
+        }
+    }
 }
 
-fn main() {
+fn report(rt: &impl Print, name: &[u8], t: Tally) -> io::Result<()> {
+    rt.write_all(name)?;
+    rt.write_all(b": ")?;
+    rt.print(t.entries)?;
+    rt.write_all(b" entries, ")?;
+    rt.print(t.differences)?;
+    rt.write_all(b" differences\n")
+}
+
+fn main(rt: HostRuntime) -> io::Result<()> {
     let mut buffer = [0u8; 262144];
-    let n = load(b"tables.bin", &mut buffer);
-    report(b"tables.bin", rows::replay(tally::part(&buffer, 0, n)));
-    let n = load(b"code-list.bin", &mut buffer);
-    report(b"code-list.bin", lists::replay(tally::part(&buffer, 0, n)));
-    let list = lists::listed(tally::part(&buffer, 0, n));
-    let n = load(b"bodies.bin", &mut buffer);
-    report(b"bodies.bin", bodies::replay(tally::part(&buffer, 0, n)));
-    let n = load(b"targets.bin", &mut buffer);
+    let n = load(&rt, "tables.bin", &mut buffer)?;
+    report(&rt, b"tables.bin", rows::replay(tally::part(&buffer, 0, n)))?;
+    let n = load(&rt, "code-list.bin", &mut buffer)?;
     report(
+        &rt,
+        b"code-list.bin",
+        lists::replay(tally::part(&buffer, 0, n)),
+    )?;
+    let list = lists::listed(tally::part(&buffer, 0, n));
+    let n = load(&rt, "bodies.bin", &mut buffer)?;
+    report(
+        &rt,
+        b"bodies.bin",
+        bodies::replay(tally::part(&buffer, 0, n)),
+    )?;
+    let n = load(&rt, "targets.bin", &mut buffer)?;
+    report(
+        &rt,
         b"targets.bin",
         bodies::replay_targets(tally::part(&buffer, 0, n)),
-    );
-    let n = load(b"programs.bin", &mut buffer);
+    )?;
+    let n = load(&rt, "programs.bin", &mut buffer)?;
     report(
+        &rt,
         b"programs.bin",
         programs::replay(list, tally::part(&buffer, 0, n)),
-    );
-    let n = load(b"pools.bin", &mut buffer);
+    )?;
+    let n = load(&rt, "pools.bin", &mut buffer)?;
     report(
+        &rt,
         b"pools.bin",
         pools::replay(list, tally::part(&buffer, 0, n)),
-    );
+    )
 }

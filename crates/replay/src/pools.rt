@@ -5,7 +5,7 @@ use crate::{lists, programs, tally};
 use answers::Fields;
 
 // Descriptors and entries, in columns, how many of each there are, and the pool.
-#[derive(Drop)]
+#[derive(Clone, Copy)]
 pub struct Calls {
     pub types: [u16; 16],
     pub callees: [u16; 16],
@@ -22,7 +22,7 @@ fn words_at(data: &[u8], at: usize, step: usize) -> [u16; 16] {
     let mut row: usize = 0;
     while row < 16 {
         cells[row] = tally::word(data, from);
-        from = std::num::wrapping_add_usize(from, step);
+        from = from.wrapping_add(step);
         row += 1;
     }
     cells
@@ -30,13 +30,13 @@ fn words_at(data: &[u8], at: usize, step: usize) -> [u16; 16] {
 
 // Descriptors from a place on, and the entries and the pool that follow them.
 fn calls_at(data: &[u8], at: usize, descriptors: usize, entered: usize) -> Calls {
-    let rows = std::num::wrapping_add_usize(at, 2);
-    let behind = std::num::wrapping_add_usize(rows, descriptors % 65536 * 4);
-    let entries = std::num::wrapping_add_usize(behind, 1);
-    let last = std::num::wrapping_add_usize(entries, entered % 256 * 2);
+    let rows = at.wrapping_add(2);
+    let behind = rows.wrapping_add(descriptors % 65536 * 4);
+    let entries = behind.wrapping_add(1);
+    let last = entries.wrapping_add(entered % 256 * 2);
     Calls {
         types: words_at(data, rows, 4),
-        callees: words_at(data, std::num::wrapping_add_usize(rows, 2), 4),
+        callees: words_at(data, rows.wrapping_add(2), 4),
         entries: words_at(data, entries, 2),
         descriptors,
         entered,
@@ -193,18 +193,18 @@ pub fn replay(list: lists::Columns, data: &[u8]) -> Tally {
     while at < data.len() {
         let n = programs::wide8(data[at]);
         let rows = at + 1;
-        let after = std::num::wrapping_add_usize(rows, n * 10);
+        let after = rows.wrapping_add(n * 10);
         let size = programs::wide16(tally::word(data, after));
-        let code = std::num::wrapping_add_usize(after, 2);
-        let calls = std::num::wrapping_add_usize(code, size);
+        let code = after.wrapping_add(2);
+        let calls = code.wrapping_add(size);
         let descriptors = programs::wide16(tally::word(data, calls));
-        let behind = std::num::wrapping_add_usize(calls, descriptors * 4);
+        let behind = calls.wrapping_add(descriptors * 4);
         let entered = programs::wide8(tally::byte(data, behind, 2));
         let entry = n * 10 + size + descriptors * 4 + entered * 2 + 32;
         if data.len() - at < entry {
             return tally::one_more(t, false);
         }
-        let answer = std::num::wrapping_add_usize(behind, entered * 2 + 5);
+        let answer = behind.wrapping_add(entered * 2 + 5);
         let c = calls_at(data, calls, descriptors, entered);
         let d = programs::rows_at(data, rows);
         let f = with_directory(d, n, list, c, tally::part(data, code, size));

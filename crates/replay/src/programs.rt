@@ -6,7 +6,7 @@ use crate::{lists, tally};
 use answers::Fields;
 
 // A program's functions, in columns.
-#[derive(Drop)]
+#[derive(Clone, Copy)]
 pub struct Directory {
     pub ids: [u16; 16],
     pub parameters: [u16; 16],
@@ -42,12 +42,12 @@ pub fn rows_at(data: &[u8], at: usize) -> Directory {
     let mut lengths = [0usize; 16];
     let mut row: usize = 0;
     while row < 16 {
-        let from = std::num::wrapping_add_usize(at, row * 10);
+        let from = at.wrapping_add(row * 10);
         ids[row] = tally::word(data, from);
-        parameters[row] = tally::word(data, std::num::wrapping_add_usize(from, 2));
-        maxima[row] = tally::word(data, std::num::wrapping_add_usize(from, 4));
-        offsets[row] = wide16(tally::word(data, std::num::wrapping_add_usize(from, 6)));
-        lengths[row] = wide16(tally::word(data, std::num::wrapping_add_usize(from, 8)));
+        parameters[row] = tally::word(data, from.wrapping_add(2));
+        maxima[row] = tally::word(data, from.wrapping_add(4));
+        offsets[row] = wide16(tally::word(data, from.wrapping_add(6)));
+        lengths[row] = wide16(tally::word(data, from.wrapping_add(8)));
         row += 1;
     }
     Directory {
@@ -61,9 +61,9 @@ pub fn rows_at(data: &[u8], at: usize) -> Directory {
 
 // Four bytes, low byte first.
 fn number(data: &[u8], at: usize, i: usize) -> u64 {
-    let from = std::num::wrapping_add_usize(at, i % 6 * 4);
+    let from = at.wrapping_add(i % 6 * 4);
     let low = wide64(tally::word(data, from));
-    let high = wide64(tally::word(data, std::num::wrapping_add_usize(from, 2)));
+    let high = wide64(tally::word(data, from.wrapping_add(2)));
     low + high * 65536
 }
 
@@ -180,15 +180,15 @@ pub fn replay(list: lists::Columns, data: &[u8]) -> Tally {
     while at < data.len() {
         let n = wide8(data[at]);
         let rows = at + 1;
-        let after = std::num::wrapping_add_usize(rows, n * 10);
+        let after = rows.wrapping_add(n * 10);
         let size = wide16(tally::word(data, after));
         let entry = n * 10 + size + 27;
         if data.len() - at < entry {
             return tally::one_more(t, false);
         }
-        let from = std::num::wrapping_add_usize(after, 2);
+        let from = after.wrapping_add(2);
         let f = with_list(list, rows_at(data, rows), n, tally::part(data, from, size));
-        let same = same_fields(f, data, std::num::wrapping_add_usize(from, size));
+        let same = same_fields(f, data, from.wrapping_add(size));
         t = tally::one_more(t, same);
         at += entry;
     }

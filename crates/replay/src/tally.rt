@@ -1,5 +1,5 @@
 // How many entries were replayed and how many of them differed; and the part of a file that an entry is.
-#[derive(Drop)]
+#[derive(Clone, Copy)]
 pub struct Tally {
     pub entries: u64,
     pub differences: u64,
@@ -13,7 +13,7 @@ pub fn none() -> Tally {
 }
 
 pub fn one_more(t: Tally, same: bool) -> Tally {
-    let entries = std::num::wrapping_add_u64(t.entries, 1);
+    let entries = t.entries.wrapping_add(1);
     if same {
         return Tally {
             entries,
@@ -22,7 +22,7 @@ pub fn one_more(t: Tally, same: bool) -> Tally {
     }
     Tally {
         entries,
-        differences: std::num::wrapping_add_u64(t.differences, 1),
+        differences: t.differences.wrapping_add(1),
     }
 }
 
@@ -40,7 +40,7 @@ pub fn part(data: &[u8], from: usize, n: usize) -> &[u8] {
 
 // The byte that stands i bytes after a place.
 pub fn byte(data: &[u8], at: usize, i: usize) -> u8 {
-    cells::u8_at(data, std::num::wrapping_add_usize(at, i))
+    cells::u8_at(data, at.wrapping_add(i))
 }
 
 // Two bytes, low byte first.

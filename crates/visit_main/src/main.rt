@@ -1,27 +1,30 @@
 // The visit on its deepest and widest graphs of 128 functions: a line for each, with 0 and the largest total, 20 with row and total, or 21 with the row.
+#![tactic(auto)]
+
 ghost use Rattle.std.specs.Prelude.{◌<◌};
 
+use std::io;
 use visit::Visited;
 
-fn line(name: &[u8], a: Visited) {
-    io::write_all(1, name);
+fn line(rt: &impl Print, name: &[u8], a: Visited) -> io::Result<()> {
+    rt.write_all(name)?;
     match a {
         Visited::Fine(t) => {
-            io::write_all(1, b": 0 ");
-            io::print_decimal(1, t as u64);
+            rt.write_all(b": 0 ")?;
+            rt.print(t as u64)?;
         }
         Visited::Cycle(f) => {
-            io::write_all(1, b": 21 ");
-            io::print_decimal(1, f as u64);
+            rt.write_all(b": 21 ")?;
+            rt.print(f as u64)?;
         }
         Visited::Over(f, t) => {
-            io::write_all(1, b": 20 ");
-            io::print_decimal(1, f as u64);
-            io::write_all(1, b" ");
-            io::print_decimal(1, t as u64);
+            rt.write_all(b": 20 ")?;
+            rt.print(f as u64)?;
+            rt.write_all(b" ")?;
+            rt.print(t as u64)?;
         }
     }
-    io::write_all(1, b"\n");
+    rt.write_all(b"\n")
 }
 
 // Each function calls the next one, the last none.
@@ -75,102 +78,143 @@ fn falling(ids: &mut [u16]) {
     }
 }
 
-fn ask(name: &[u8], cells: &[u8], weights: &[u16], pool: u16, entries: &[u16]) {
+fn ask(
+    rt: &impl Print,
+    name: &[u8],
+    cells: &[u8],
+    weights: &[u16],
+    pool: u16,
+    entries: &[u16],
+) -> io::Result<()> {
     let mut ids = [0u16; 128];
     falling(&mut ids);
     line(
+        rt,
         name,
         visit::visit_entries(cells, weights, pool, &ids, entries),
-    );
+    )
 }
 
-fn chains(cells: &mut [u8], weights: &[u16], first: &[u16], again: &[u16]) {
+fn chains(
+    rt: &impl Print,
+    cells: &mut [u8],
+    weights: &[u16],
+    first: &[u16],
+    again: &[u16],
+) -> io::Result<()> {
     chain(cells);
-    ask(b"chain", cells, weights, 128, first);
-    ask(b"chain, pool short by one", cells, weights, 127, first);
+    ask(rt, b"chain", cells, weights, 128, first)?;
+    ask(rt, b"chain, pool short by one", cells, weights, 127, first)?;
     ask(
+        rt,
         b"chain, 32 times the same entry",
         cells,
         weights,
         128,
         again,
-    );
+    )
 }
 
-fn rings(cells: &mut [u8], weights: &[u16], first: &[u16]) {
+fn rings(rt: &impl Print, cells: &mut [u8], weights: &[u16], first: &[u16]) -> io::Result<()> {
     cells::put_u8(cells, 16256, 1);
     ask(
+        rt,
         b"chain, the last calls the first",
         cells,
         weights,
         128,
         first,
-    );
+    )?;
     cells::put_u8(cells, 16256, 128);
-    ask(b"chain, the last calls itself", cells, weights, 128, first);
+    ask(
+        rt,
+        b"chain, the last calls itself",
+        cells,
+        weights,
+        128,
+        first,
+    )
 }
 
-fn entries_of_a_chain(cells: &mut [u8], weights: &[u16]) {
+fn entries_of_a_chain(rt: &impl Print, cells: &mut [u8], weights: &[u16]) -> io::Result<()> {
     chain(cells);
     let from_its_end = [73u16, 200u16, 73u16, 9u16, 137u16];
     ask(
+        rt,
         b"chain, entries from its end on, one unknown",
         cells,
         weights,
         128,
         &from_its_end,
-    );
+    )?;
     let unknown = [9u16; 1];
-    ask(b"chain, unknown entry, pool 0", cells, weights, 0, &unknown);
     ask(
+        rt,
+        b"chain, unknown entry, pool 0",
+        cells,
+        weights,
+        0,
+        &unknown,
+    )?;
+    ask(
+        rt,
         b"chain, no entry, pool 0",
         cells,
         weights,
         0,
         &unknown[0..0],
-    );
+    )
 }
 
-fn widest(cells: &mut [u8], weights: &[u16], first: &[u16], again: &[u16]) {
+fn widest(
+    rt: &impl Print,
+    cells: &mut [u8],
+    weights: &[u16],
+    first: &[u16],
+    again: &[u16],
+) -> io::Result<()> {
     wide(cells);
-    ask(b"widest", cells, weights, 128, first);
-    ask(b"widest, pool short by one", cells, weights, 127, first);
+    ask(rt, b"widest", cells, weights, 128, first)?;
+    ask(rt, b"widest, pool short by one", cells, weights, 127, first)?;
     ask(
+        rt,
         b"widest, pool short by two, 32 times the same entry",
         cells,
         weights,
         126,
         again,
-    );
+    )
 }
 
-fn heavy(cells: &[u8], weights: &mut [u16], first: &[u16]) {
+fn heavy(rt: &impl Print, cells: &[u8], weights: &mut [u16], first: &[u16]) -> io::Result<()> {
     cells::put_u16(weights, 64, 65535);
     ask(
+        rt,
         b"widest, one of 65535, pool 65535",
         cells,
         weights,
         65535,
         first,
-    );
+    )?;
     ask(
+        rt,
         b"widest, one of 65535, pool 65534",
         cells,
         weights,
         65534,
         first,
-    );
+    )
 }
 
-fn main() {
+fn main(rt: HostRuntime) -> io::Result<()> {
     let mut weights = [1u16; 128];
     let first = [200u16; 1];
     let again = [200u16; 32];
     let mut cells = [0u8; 16384];
-    entries_of_a_chain(&mut cells, &weights);
-    chains(&mut cells, &weights, &first, &again);
-    rings(&mut cells, &weights, &first);
+    entries_of_a_chain(&rt, &mut cells, &weights)?;
+    chains(&rt, &mut cells, &weights, &first, &again)?;
+    rings(&rt, &mut cells, &weights, &first)?;
     let mut full = [0u8; 16384];
-    widest(&mut full, &weights, &first, &again);
-    heavy(&full, &mut weights, &first);
+    widest(&rt, &mut full, &weights, &first, &again)?;
+    heavy(&rt, &full, &mut weights, &first)
 }
