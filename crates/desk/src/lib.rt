@@ -1,5 +1,7 @@
 // Both checks over a bench file's bytes (01, "Bench file, program and C entry"): the file is read into local columns of 01's limits, a refusal of
 // the file or of its program ends the call, and else both checks run over one local scratch.
+#![tactic(auto)]
+
 ghost use Rattle.std.specs.Prelude.{◌≡◌};
 ghost use Rattle.program.specs.Program.{list_of, functions_of, program_of, descriptors_of, pool_program_of};
 ghost use Rattle.desk.specs.Desk.{both_of, program_answer, desk_answer};
