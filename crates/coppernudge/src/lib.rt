@@ -48,6 +48,7 @@ fn put_words(out: &mut [u8], words: &[u32])
 
 // Below 48 bytes of answer 30, and nothing is read or written; a refusal's number, and the buffer stays; else 0 and the twelve fields.
 #[unsafe(no_mangle)]
+#[tactic(auto, using(crate::proofs::EntryLaws::short, crate::proofs::EntryLaws::refused))]
 pub extern "C" fn coppernudge_check(file: &[u8], answer: &mut [u8]) -> u32
     ensures { (result, answer.new) ≡ entry_of file.now answer.old }
 {
