@@ -1,2 +1,3 @@
 pub mod Filling
 mod Scanning
+pub mod Laws

@@ -10,7 +10,7 @@ use mathlib.Core.List.{List}
 use lib.Dec.{eqb}
 use lib.ListN.{length, get_or}
 use Rattle.effects.specs.Effects.{names_method}
-use Rattle.effects.specs.Laws.{method_named, method_not_named}
+use Rattle.effects.proofs.Laws.{method_named, method_not_named}
 
 abbrev pub Says : List ℕ → ℕ → Bool → Type 0
 Says code i false = (j : ℕ) → j < i → get_or code j 0 ≡ 0xF8 → ⊥

@@ -4,6 +4,7 @@ pub mod Looking
 pub mod Treading
 pub mod Counting
 pub mod Runs
+pub mod Sound
 pub mod Theorem
 pub mod Programs
 pub mod StackAnswers

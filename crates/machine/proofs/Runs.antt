@@ -40,7 +40,7 @@ use Rattle.machine.proofs.Treading.{Treads, treads}
 use Rattle.machine.proofs.Counting.{Once, once_frames}
 
 module _ (q : PoolProgram) (stack-room room : Room) (cells : ℕ) (stacked : Sound q.program stack-room) (pooled : PoolSound q room cells) where
-  abbrev graph : Graph
+  abbrev pub graph : Graph
   graph = call_graph q
 
   abbrev known : Effects
@@ -50,7 +50,7 @@ module _ (q : PoolProgram) (stack-room room : Room) (cells : ℕ) (stacked : Sou
   abbrev ruled : Frame → ℕ → ℕ → Look
   ruled fr = look_of known (marks_of size_of (body_in q fr)) (body_in q fr) (declared q fr)
 
-  record Stands (fr : Frame) : Type 0 where
+  pub record Stands (fr : Frame) : Type 0 where
     reached : Reached q fr.row
     balanced : Balanced size_of known (body_in q fr) (declared q fr)
     sheet : Sheet q fr.row
@@ -116,7 +116,7 @@ module _ (q : PoolProgram) (stack-room room : Room) (cells : ℕ) (stacked : Sou
       }
 
   -- ---- the frames below one of the function at a row, and how much of the pool is left to it and what it calls
-  data Below : List Frame → ℕ → ℕ → Type 0 where
+  pub data Below : List Frame → ℕ → ℕ → Type 0 where
     nothing : {row : ℕ} → Tame graph q.pool row → Below [] row q.pool
     caller : {fr : Frame} {c : List Frame} {row left more : ℕ} → Below c fr.row more → Stands fr → Calls graph fr.row row → Tame graph left row
         → graph.weight fr.row + left ≤ more → Below (fr ∷ c) row left
@@ -129,7 +129,7 @@ module _ (q : PoolProgram) (stack-room room : Room) (cells : ℕ) (stacked : Sou
   tame_there (nothing m) = m
   tame_there (caller b s k m le) = m
 
-  budget : {c : List Frame} {row left : ℕ} → Below c row left → live c + left ≤ q.pool
+  pub budget : {c : List Frame} {row left : ℕ} → Below c row left → live c + left ≤ q.pool
   unfolding live
   budget (nothing m) = omega arith
   budget (caller b s k m le) = omega (arith, budget b, s.light)
@@ -191,10 +191,11 @@ module _ (q : PoolProgram) (stack-room room : Room) (cells : ℕ) (stacked : Sou
   once_all closed = tt
   once_all (good b s) = (apart b, once_below b)
 
-  light_all : {c : List Frame} → Good c → live c ≤ q.pool
+  -- where the frames below and what is left are within the pool, all frames are
+  light_all : ((c : List Frame) (row left : ℕ) → Below c row left → live c + left ≤ q.pool) → {c : List Frame} → Good c → live c ≤ q.pool
   unfolding live
-  light_all closed = omega arith
-  light_all (good {fr} {c} {left} b s) = omega (arith, budget b, s.light, tame_self graph left fr.row (tame_there b))
+  light_all within closed = omega arith
+  light_all within (good {fr} {c} {left} b s) = omega (arith, within c fr.row left b, s.light, tame_self graph left fr.row (tame_there b))
 
   moves_on : (fr : Frame) (c : List Frame) → Stands fr → (d : List Frame) × Step q (fr ∷ c) d
   moves_on fr c s = by (decodes_at size_of (body_in q fr) fr.offset s.standing)
@@ -215,9 +216,9 @@ module _ (q : PoolProgram) (stack-room room : Room) (cells : ℕ) (stacked : Sou
   moves_all closed = inl refl
   moves_all (good {fr} {c} b s) = inr (moves_on fr c s)
 
-  -- every configuration of every run is safe
-  pub sound_safe : {c : List Frame} → Run q c → Safe q c
-  sound_safe {c} r =
+  -- every configuration of every run is safe, by `budget` (Sound.antt)
+  pub safe_within : ((c : List Frame) (row left : ℕ) → Below c row left → live c + left ≤ q.pool) → {c : List Frame} → Run q c → Safe q c
+  safe_within within {c} r =
       let i = steps_good r.entry (r.entry, r.listed, same) r.steps in
       record {
         enough = λ fr o x. (obeyed fr (stands_at i o) x).enough;
@@ -229,6 +230,6 @@ module _ (q : PoolProgram) (stack-room room : Room) (cells : ℕ) (stacked : Sou
         ends = λ fr o e.
             end_held known (marks_of size_of (body_in q fr)) (body_in q fr) (declared q fr) fr.offset fr.depth (end_only size_of (body_in q fr) fr.offset e) (holds fr (stands_at i o));
         once = λ row. once_frames row c (once_all i);
-        buffers = light_all i;
+        buffers = light_all within i;
         moves = moves_all i;
       }

@@ -1,5 +1,5 @@
 -- Demand 3's theorem (specs/Demand.antt), and what it is worth to whoever calls the two checks. What acceptance means is the checks' own theorems
--- (stack_exact, pool_exact); that runs are then safe is Runs.antt. An answer that is accepted was no refusal.
+-- (stack_exact, pool_exact); that runs are then safe is Sound.antt. An answer that is accepted was no refusal.
 -- Assumes nothing. The pool is a u16, so at most 65,535, of which the definitions over any numbers know nothing: it is said as a hypothesis.
 --     demand        demand 3, for any program
 --     runs_safe     its second half alone
@@ -21,7 +21,7 @@ use Rattle.pool.proofs.Accepting.{pool_exact}
 use Rattle.machine.specs.Machine.{Frame, Run}
 use Rattle.machine.specs.Safe.{Safe}
 use Rattle.machine.specs.Demand.{Demand}
-use Rattle.machine.proofs.Runs.{sound_safe}
+use Rattle.machine.proofs.Sound.{sound_safe}
 
 module _ (q : PoolProgram) (stack-room room : Room) (cells : ℕ) (small : q.pool ≤ 65535) where
   pub runs_safe : stack_answer q.program stack-room ≡ of-stack.Verdict.Accepted → pool_answer q room cells ≡ of-pool.Verdict.Accepted → {c : List Frame} → Run q c → Safe q c

@@ -22,7 +22,7 @@ use Rattle.program.proofs.Taken.{stack_taken}
 use Rattle.rules.specs.declared.Walked.{Walked}
 use Rattle.rules.specs.Look.{Effects}
 use Rattle.effects.specs.Effects.{directory_of, known_by, known_of, given_back}
-use Rattle.effects.specs.Laws.{known_is}
+use Rattle.effects.proofs.Laws.{known_is}
 use Rattle.stack.specs.declared.Verdict.{Verdict}
 use Rattle.stack.proofs.Alike.{body_byte, answer_alike}
 use Rattle.stack.specs.Columns.{Cleared, Roomy}

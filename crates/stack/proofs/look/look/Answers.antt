@@ -9,7 +9,7 @@ use Rattle.flow.proofs.Next.{flow_next}
 use Rattle.rules.specs.declared.Known.{Known}
 use Rattle.rules.proofs.Cases.{look_end}
 use Rattle.rules.proofs.Moving.{look_is, look_next}
-use Rattle.effects.specs.Laws.{known_fixed}
+use Rattle.effects.proofs.Laws.{known_fixed}
 use Rattle.stack.proofs.look.look.Goals as goal
 
 pub returns-then-body-offset : goal.returns-then-body-offset
