@@ -25,8 +25,10 @@ module _ (code : List ℕ) (i : ℕ) where
   says_more h named true e s = (i, (h, eqb-true (get_or code i 0) 0xF8 e))
   says_more h false false e s = below_more (λ (k : ℕ). get_or code k 0 ≡ 0xF8 → ⊥) i s (eqb-false (get_or code i 0) 0xF8 e)
   says_more h true false e s = s
+
   pub scanned_more : i < length code → (named last : Bool) → last ≡ cond (eqb (get_or code i 0) 0xF8) true named → Scanned code i named → Scanned code (i + 1) last
   scanned_more h named last e s = record { within = omega arith; says = rw e (says_more h named (eqb (get_or code i 0) 0xF8) refl s.says) }
+
   pub says_all : length code ≤ i → (named : Bool) → Says code i named → named ≡ names_method code
   says_all h false s = sym (method_not_named code (λ j l. s j (omega arith)))
   says_all h true s = sym (method_named code s.0 s.1.0 s.1.1)

@@ -12,11 +12,11 @@ abbrev pub fourteen : List ℕ
 fourteen = 0 ∷ (0 ∷ (1 ∷ (1 ∷ (0 ∷ (1 ∷ (0 ∷ (2 ∷ (0 ∷ (1 ∷ (1 ∷ (2 ∷ (5 ∷ (136 ∷ [])))))))))))))
 
 -- one function (id 1, no parameters, maximum 1, offset 0, length 2), one entry (1), two code bytes
-pub fourteen-states :
+pub fourteen_states :
     stated fourteen ≡
     states (record { pool = 0; tables = columns [] [] [] (1 ∷ []) (0 ∷ []) (1 ∷ []) (0 ∷ []) (2 ∷ []) [] [] (1 ∷ []) (5 ∷ (136 ∷ [])) })
 unfolding stated stated_by bench_of tables_in layout_of column_at column_of numbers_of_table numbers run_of after_run halted on_count counted table_of begin pool_of rows_of functions_of descriptors_of entries_of code_of code_end end_of number_at first second third
-fourteen-states = refl
+fourteen_states = refl
 
 pub cut_states : stated (take 13 fourteen) ≡ refuses 41 13
 unfolding stated stated_by bench_of tables_in layout_of column_at column_of numbers_of_table numbers run_of after_run halted on_count counted table_of begin pool_of rows_of functions_of descriptors_of entries_of code_of code_end end_of number_at first second third

@@ -1,12 +1,11 @@
 -- The theorem is not empty: a run of a program that both checks accept opens three frames, holds the whole pool and comes to its end. Each step by
 -- computation from the machine's definition; the theorem at the run's fullest configuration, whose bounds are met.
 -- Assumes nothing.
-use Prim.Native.Nat.{ℕ, ◌≤◌}
+use Prim.Native.Nat.{ℕ}
 use native.Mathlib.Omega.{arith}
 use mathlib.Core.Path.{◌≡◌, refl}
 use mathlib.Core.Logic.{inl}
 use mathlib.Core.List.{List, [], ◌∷◌}
-use lib.ListN.{length}
 use Rattle.cells.specs.Zeros.{zeros}
 use Rattle.tables.specs.declared.Effect.{Effect}
 use Rattle.tables.specs.Set.{effect, size_of, move_of, temp_of, instruction_set}

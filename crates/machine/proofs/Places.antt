@@ -1,10 +1,10 @@
 -- Where a frame can stand: in a body that decodes to its end, offset 0 and wherever an instruction goes on to is a start of an instruction or the
 -- body's end, so that something decodes there, with its mark for its size. By flow's laws on starts, taken at a body's own marks.
 -- Assumes nothing.
-use Prim.Native.Nat.{ℕ, ◌+◌, ◌≤◌, ◌<◌}
+use Prim.Native.Nat.{ℕ, ◌+◌, ◌<◌}
 use native.Mathlib.Omega.{arith}
 use mathlib.Core.Path.{◌≡◌, refl, sym, ap, subst, ◌∙◌}
-use mathlib.Core.Bool.{Bool, true, false, cond}
+use mathlib.Core.Bool.{Bool, true, cond}
 use mathlib.Core.List.{List}
 use mathlib.Core.Logic.{◌⊎◌, inl, inr, ⊎_elim}
 use lib.ListN.{length, get_or}
@@ -19,7 +19,7 @@ use Rattle.flow.specs.Decode.{step_by, moved, target_of}
 use Rattle.flow.specs.Walk.{walk_by, end_of, is_start, marks_of}
 use Rattle.flow.proofs.Laws.{Stands, stands, step_end}
 use Rattle.flow.proofs.StartLaws.{marked, Begins, begins}
-use Rattle.flow.proofs.Next.{Standing, first_stands, next_stands, target_stands, marks_are}
+use Rattle.flow.proofs.Next.{Standing, next_stands, target_stands, marks_are}
 use Rattle.machine.specs.Machine.{Onward}
 
 module _ (sizes : ℕ → ℕ) (body : List ℕ) where

@@ -1,8 +1,6 @@
 -- What the pool check answers for the programs of Programs.antt, computed from its definition.
 -- Assumes nothing.
-use Prim.Native.Nat.{ℕ}
 use mathlib.Core.Path.{◌≡◌, refl}
-use mathlib.Core.List.{List}
 use Rattle.cells.specs.Zeros.{zeros}
 use Rattle.tables.specs.Set.{size_of, move_of, temp_of, instruction_set}
 use Rattle.flow.specs.Decode.{step_by, operands_at, word_at, flow_of, moved, target_of}

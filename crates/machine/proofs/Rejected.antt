@@ -1,14 +1,12 @@
 -- Why rejected programs are rejected: for one of each of 5, 6, 8, 9, 20 and 21 a run to a configuration that is not safe, with the clause that it
 -- breaks. Each step by computation from the machine's definition, which tests nothing; the answers are StackAnswers.antt's and PoolAnswers.antt's.
 -- Assumes nothing.
-use Prim.Native.Nat.{ℕ, ◌≤◌, ◌<◌}
+use Prim.Native.Nat.{ℕ, ◌<◌}
 use native.Mathlib.Omega.{arith}
-use mathlib.Core.Path.{◌≡◌, refl, sym, ◌∙◌}
-use mathlib.Core.Logic.{◌⊎◌, inl, inr, ⊎_elim}
+use mathlib.Core.Path.{◌≡◌, refl}
+use mathlib.Core.Logic.{inl, inr, ⊎_elim}
 use mathlib.Core.List.{List, [], ◌∷◌}
-use lib.ListN.{length}
 use Rattle.cells.specs.Zeros.{zeros}
-use Rattle.tables.specs.declared.Effect.{Effect}
 use Rattle.tables.specs.Set.{effect, size_of, move_of, temp_of, instruction_set}
 use Rattle.flow.specs.declared.Step.TheVariants.{End}
 use Rattle.flow.specs.declared.Flow.TheVariants.{Return}
@@ -22,8 +20,8 @@ use Rattle.effects.specs.Effects.{known_of}
 use Rattle.stack.specs.declared.Verdict as of-stack
 use Rattle.callees.specs.Callees.{temps_by, opens_by}
 use Rattle.pool.specs.declared.Verdict as of-pool
-use Rattle.machine.specs.Machine.{Frame, frame, opened, decoded_at, Acts, depth_after, flow_at, Step, goes, Steps, begins, then, Run, live}
-use Rattle.machine.specs.Safe.{Open, top, declared, frames_of, Safe}
+use Rattle.machine.specs.Machine.{Frame, frame, opened, decoded_at, Acts, depth_after, flow_at, Step, goes, begins, then, Run, live}
+use Rattle.machine.specs.Safe.{top, declared, frames_of, Safe}
 use Rattle.machine.proofs.Programs.{empty_pop, too_deep, uneven, left_over, greedy, circle}
 use Rattle.machine.proofs.StackAnswers.{StackGives, stack_answers}
 use Rattle.machine.proofs.PoolAnswers.{PoolGives, pool_answers}

@@ -3,15 +3,14 @@
 -- left of the pool when the weights of the frames below are taken from it suffices for all chains of calls from it (Below). A step keeps that: by the
 -- sheets of the bodies (pool's Sheets.antt), one depth for each reachable offset (stack's Accepting.antt) and the laws of tame functions (visit).
 -- Assumes nothing.
-use Prim.Native.Nat.{ℕ, zero, suc, ◌+◌, ◌-◌, ◌≤◌, ◌<◌}
+use Prim.Native.Nat.{ℕ, zero, suc, ◌+◌, ◌≤◌, ◌<◌}
 use native.Mathlib.Omega.{arith}
-use mathlib.Core.Path.{◌≡◌, refl, sym, ap, subst, ◌∙◌}
+use mathlib.Core.Path.{◌≡◌, refl, sym, subst, ◌∙◌}
 use mathlib.Core.List.{List, [], ◌∷◌}
 use mathlib.Core.Logic.{◌⊎◌, inl, inr, ⊎_elim}
 use lib.ListN.{length, get_or}
 use Rattle.tables.specs.Set.{size_of, move_of}
 use Rattle.flow.specs.declared.Step.TheVariants.{End}
-use Rattle.flow.specs.declared.Flow.TheVariants.{Return}
 use Rattle.flow.specs.Walk.{marks_of}
 use Rattle.flow.proofs.Laws.{end_only}
 use Rattle.flow.proofs.StartLaws.{Begins}

@@ -13,7 +13,6 @@ use Rattle.program.specs.Program.{PoolProgram, functions_of, list_of, program_of
 use Rattle.program.specs.Refusals.{room_of}
 use Rattle.stack.specs.declared.Verdict as of-stack
 use Rattle.stack.specs.Stack.{stack_answer}
-use Rattle.stack.specs.Exact.{Sound}
 use Rattle.stack.proofs.Accepting.{stack_exact}
 use Rattle.pool.specs.declared.Verdict as of-pool
 use Rattle.pool.specs.Pool.{pool_answer}

@@ -1,7 +1,7 @@
 -- The rules' cases where an effect is known: what it makes of a depth, for whatever comes after, and the look as that. For the code of a look.
 -- Assumes nothing.
 use Prim.Native.Nat.{ℕ, ◌+◌, ◌-◌, ◌≤◌, ◌<◌}
-use mathlib.Core.Path.{◌≡◌, refl, ◌∙◌, ap, sym}
+use mathlib.Core.Path.{◌≡◌, refl, ◌∙◌, ap}
 use mathlib.Core.List.{List}
 use lib.ListN.{length, get_or}
 use borrow.Author.Tests.{lt-ltb, le-ltb}
@@ -12,7 +12,7 @@ use Rattle.flow.specs.Decode.{operands_at, flow_of, moved, target_of}
 use Rattle.rules.specs.declared.Known.{Known}
 use Rattle.rules.specs.declared.Violation.{Violation}
 use Rattle.rules.specs.declared.Look.{Look}
-use Rattle.rules.specs.declared.Look.TheVariants.{Bad, Leaves, Goes, Forks}
+use Rattle.rules.specs.declared.Look.TheVariants.{Bad, Goes, Forks}
 use Rattle.rules.specs.Look.{Effects, larger, on_target, flowing, moving, on_known, acting, look_of}
 
 module _ (offset op maximum depth : ℕ) (e : Effect) (go : ℕ → Look) where

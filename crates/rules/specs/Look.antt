@@ -1,7 +1,7 @@
 -- 01's rules at one place, an offset of a body at a depth. `known` gives an instruction's effect from its opcode and operands; `marks` hold an
 -- instruction's size at each start and 0 elsewhere. Nothing else repeats these rules.
 -- Assumes nothing.
-use Rattle.std.specs.Prelude.{ℕ, ◌+◌, ◌-◌, ◌≤◌, ◌<◌, Bool, true, false, cond, List, ltb, eqb, length, get_or}
+use Rattle.std.specs.Prelude.{ℕ, ◌+◌, ◌-◌, ◌≤◌, ◌<◌, cond, List, ltb, eqb, length, get_or}
 use Rattle.tables.specs.declared.Effect.{Effect}
 use Rattle.flow.specs.declared.Flow.{Flow}
 use Rattle.flow.specs.declared.Flow.TheVariants.{Next, Jump, Branch, Return}

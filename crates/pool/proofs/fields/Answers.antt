@@ -19,7 +19,7 @@ returns-in-Accepted c = c.accepted.ensures ∙ sym (ap fields_of c.in-Accepted.i
 -- src/lib.rt:217:1
 pub returns-in-ExceedsDeclaredPool : goal.returns-in-ExceedsDeclaredPool
 unfolding fields_of
-returns-in-ExceedsDeclaredPool c =  c.fields_by.ensures ∙ ap₂ (λ (x y : ℕ). fields_by 20 c.in-ExceedsDeclaredPool.function c.in-ExceedsDeclaredPool.offset x y 0) c.wide.ensures c.wide-in-ExceedsDeclaredPool.ensures ∙ sym (ap fields_of c.in-ExceedsDeclaredPool.is)
+returns-in-ExceedsDeclaredPool c = c.fields_by.ensures ∙ ap₂ (λ (x y : ℕ). fields_by 20 c.in-ExceedsDeclaredPool.function c.in-ExceedsDeclaredPool.offset x y 0) c.wide.ensures c.wide-in-ExceedsDeclaredPool.ensures ∙ sym (ap fields_of c.in-ExceedsDeclaredPool.is)
 
 -- src/lib.rt:217:1
 pub returns-in-RecursiveCallGraph : goal.returns-in-RecursiveCallGraph

@@ -9,10 +9,13 @@ checked-requires c = call_taken _ _ _ c.stack_input-input.ensures (sym c.is_take
 
 pub returns-then-is_taken : goal.returns-then-is_taken
 returns-then-is_taken c = let k = c.checked in
-    let e = k.ensures.value in record { value = call_answers _ _ _ c.stack_input-input.ensures (sym c.is_taken.ensures ∙ c.if-is_taken.true) _ e; marks_after = (
+    let e = k.ensures.value in record {
+      value = call_answers _ _ _ c.stack_input-input.ensures (sym c.is_taken.ensures ∙ c.if-is_taken.true) _ e;
+      marks_after = (
         scratch_zero _ _ _ _ e k.ensures.zero_after.0,
         (scratch_zero _ _ _ _ e k.ensures.zero_after.1.0, (scratch_zero _ _ _ _ e k.ensures.zero_after.1.1.0, scratch_zero _ _ _ _ e k.ensures.zero_after.1.1.1)),
-      ) }
+      );
+    }
 
 pub returns : goal.returns
 returns c = record { value = call_refused _ _ _ c.stack_input-input.ensures (sym c.is_taken.ensures ∙ c.if-is_taken.false); marks_after = (scratch_kept _ _, (scratch_kept _ _, (scratch_kept _ _, scratch_kept _ _))) }

@@ -36,13 +36,11 @@ returns-in-Leaves c = let a = c.args in
 pub returns-else-alone : goal.returns-else-alone
 returns-else-alone c = let a = c.args in
     let p = c.put_one in
-    
     let q = take a.tail a.queue.now in
     rw (c.turned.ensures, c.in-Goes.is) (rw (follow_goes a.depths.now q _ _) (turn_puts a.alone a.tail a.queue.now p.result p.new.depths p.new.queue (put a.depths.now q c.in-Goes.to c.in-Goes.out) p.ensures))
 
 pub returns-in-Forks : goal.returns-in-Forks
 returns-in-Forks c = let a = c.args in
     let p = c.put_both in
-    
     let q = take a.tail a.queue.now in
     rw (c.turned-in-Forks.ensures, c.in-Forks.is) (turn_puts a.alone a.tail a.queue.now p.result p.new.depths p.new.queue (follow a.depths.now q (Look.Forks c.in-Forks.out c.in-Forks.to c.in-Forks.next)) p.ensures)
