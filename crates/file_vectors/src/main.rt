@@ -5,7 +5,7 @@
 
 mod written;
 
-ghost use Rattle.std.specs.Prelude.{◌≡◌, ◌+◌, ◌<◌, ◌≤◌, length, IfOk};
+ghost use Rattle.std.specs.Prelude.{◌≡◌, ◌+◌, ◌<◌, ◌≤◌, length, IfOk, OnErr};
 
 use file::{Outcome, Sizes};
 use std::io;
@@ -241,7 +241,8 @@ fn after_run(
     times: usize,
 ) -> io::Result<usize>
     requires { (size ≤ 70000) × ((count < 256) × (from + 256 < 18446744073709551615)) }
-    ensures { IfOk result (λ end. end ≤ 70000) }
+    ensures ok { IfOk result (λ end. end ≤ 70000) }
+    ensures err { OnErr result (file.new ≡ file.old) }
 {
     if count == 0 {
         show_front(rt, file, size, times)?;
