@@ -1,5 +1,5 @@
 -- The walk of a body that keeps the larger number at merges (01, "Pool check"), over any rules of an offset and a number of buffers. `numbers` has for
--- each offset 0, or one more than its number; the queue is first_in first-out.
+-- each offset 0, or one more than its number; the queue is first-in first-out.
 -- Assumes nothing.
 use Rattle.std.specs.Prelude.{ℕ, zero, suc, ◌+◌, ◌-◌, ◌*◌, Bool, true, false, cond, List, [], ◌∷◌, ◌++◌, length, get_or, set, replicate, ltb, eqb}
 use Rattle.buffers.specs.declared.Way.{Way}

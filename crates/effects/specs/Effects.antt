@@ -1,5 +1,5 @@
--- What an instruction takes and leaves in a program. `known…By` reads lent columns as the code does; `known_of` is 01's, with every lookup row by row
--- and each callee decoded; specs/Laws.antt says that on an input that is not refused they are one.
+-- What an instruction takes and leaves in a program. `known_by` reads lent columns as the code does; `known_of` is 01's, with every lookup row by row
+-- and each callee decoded; proofs/Laws.antt says that on an input that is not refused they are one.
 -- Assumes nothing.
 use Rattle.std.specs.Prelude.{ℕ, zero, suc, Bool, true, false, cond, List, length, get_or, set, take, drop}
 use Rattle.tables.specs.declared.Move.{Move}

@@ -80,19 +80,19 @@ module _ (known : Effects) (marks body : List ℕ) (maximum offset depth : ℕ) 
     pub look_callee : (callee : ℕ) → known op operands ≡ Known.UnknownCallee callee → look_of known marks body maximum offset depth ≡ Bad (Violation.UnknownCallee offset callee)
     look_callee callee e = look_known (Known.UnknownCallee callee) e
 
-    module _ (e : Effect) (is_Known : known op operands ≡ Known.Moves e) where
+    module _ (e : Effect) (is_known : known op operands ≡ Known.Moves e) where
       pub look_underflow : depth < e.takes → look_of known marks body maximum offset depth ≡ Bad (Violation.Underflow offset op e.takes depth)
       unfolding moving
-      look_underflow l = look_known (Known.Moves e) is_Known ∙ simp (lt-ltb depth e.takes l)
+      look_underflow l = look_known (Known.Moves e) is_known ∙ simp (lt-ltb depth e.takes l)
 
       module _ (out peak : ℕ) (enough : e.takes ≤ depth) (is-out : out ≡ depth - e.takes + e.leaves) (is-peak : peak ≡ larger depth out) where
         pub look_exceeds : maximum < peak → look_of known marks body maximum offset depth ≡ Bad (Violation.ExceedsDeclaredMax offset peak maximum)
         unfolding moving
-        look_exceeds l = look_known (Known.Moves e) is_Known ∙ simp (le-ltb depth e.takes enough, ← is-out, ← is-peak, lt-ltb maximum peak l)
+        look_exceeds l = look_known (Known.Moves e) is_known ∙ simp (le-ltb depth e.takes enough, ← is-out, ← is-peak, lt-ltb maximum peak l)
 
         pub look_flow : peak ≤ maximum → look_of known marks body maximum offset depth ≡ flowing marks (length body) offset (offset + size) op out (flow_of op operands)
         unfolding moving
-        look_flow l = look_known (Known.Moves e) is_Known ∙ simp (le-ltb depth e.takes enough, ← is-out, ← is-peak, le-ltb maximum peak l)
+        look_flow l = look_known (Known.Moves e) is_known ∙ simp (le-ltb depth e.takes enough, ← is-out, ← is-peak, le-ltb maximum peak l)
 
 -- effects that agree at the opcodes of a body give the same looks
 alike_by : (known other : Effects) (marks body : List ℕ) (maximum offset depth : ℕ) → (offset < length body → (operands : List ℕ) → known (get_or body offset 0) operands ≡ other (get_or body offset 0) operands)

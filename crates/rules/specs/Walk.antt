@@ -1,4 +1,4 @@
--- The first_in first-out walk, over any rules of an offset and a depth. `depths` has for each offset 0, or one more than its depth; `queue` holds offsets.
+-- The first-in first-out walk, over any rules of an offset and a depth. `depths` has for each offset 0, or one more than its depth; `queue` holds offsets.
 -- Assumes nothing.
 use Rattle.std.specs.Prelude.{ℕ, zero, suc, ◌+◌, ◌-◌, cond, List, [], ◌∷◌, ◌++◌, get_or, set, replicate, eqb}
 use Rattle.rules.specs.declared.Violation.{Violation}

@@ -24,7 +24,7 @@ on_decoded Decoded.Whole walked = walked
 on_decoded (Decoded.Unknown offset byte) walked = Walked.Violated (Violation.UnknownOpcode offset byte)
 on_decoded (Decoded.Truncated offset opcode) walked = Walked.Violated (Violation.TruncatedInstruction offset opcode)
 
--- then a first_in first-out queue from offset 0 at depth 0
+-- then a first-in first-out queue from offset 0 at depth 0
 unfoldable pub body_answer : (ℕ → ℕ) → Effects → List ℕ → ℕ → Walked
 body_answer sizes known body maximum =
     on_decoded (end_of (walk_by sizes body 0)) (walk_of (look_of known (marks_of sizes body) body maximum) (length body + 1))

@@ -1,4 +1,4 @@
-// The first_in first-out walk of a body, from offset 0 at depth 0. The definition is rules' `walk_of`.
+// The first-in first-out walk of a body, from offset 0 at depth 0. The definition is rules' `walk_of`.
 ghost use Rattle.std.specs.Prelude.{◌≡◌, true, ◌+◌, ◌-◌, ◌≤◌, ◌<◌, length, get_or, take};
 ghost use Rattle.tables.specs.Packed.{move_in};
 ghost use Rattle.tables.specs.Stored.{GoesOn};

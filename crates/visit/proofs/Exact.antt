@@ -120,39 +120,39 @@ module _ (G : Graph) (pool : ℕ) where
 
   -- ---- a total does not depend on what is open and not reached
   abbrev IndependentOf : (ℕ → Bool) → ℕ → Visited → Type 0
-  IndependentOf is_open f v = (t : ℕ) → v ≡ Fine t → (isOpen' : ℕ → Bool) → ((x : ℕ) → Reaches G f x → isOpen' x ≡ false) → total_of G pool isOpen' f ≡ Fine t
+  IndependentOf is_open f v = (t : ℕ) → v ≡ Fine t → (is_open' : ℕ → Bool) → ((x : ℕ) → Reaches G f x → is_open' x ≡ false) → total_of G pool is_open' f ≡ Fine t
 
   module _ (is_open : ℕ → Bool) (f : ℕ) (hf : f < 128) (new : is_open f ≡ false)
       (on : (h : ℕ) → Calls G f h → opening f is_open h ≡ false → IndependentOf (opening f is_open) h (total_of G pool (opening f is_open) h))
-      (isOpen' : ℕ → Bool) (away : (x : ℕ) → Reaches G f x → isOpen' x ≡ false) where
+      (is_open' : ℕ → Bool) (away : (x : ℕ) → Reaches G f x → is_open' x ≡ false) where
     callee_elsewhere : (h u : ℕ) → Among h (G.calls f) → callee_of (opening f is_open) (total_of G pool (opening f is_open)) h ≡ Fine u
-        → callee_of (opening f isOpen') (total_of G pool (opening f isOpen')) h ≡ Fine u
+        → callee_of (opening f is_open') (total_of G pool (opening f is_open')) h ≡ Fine u
     callee_elsewhere h u i e = by (ltb h 128) refl
       where
-        by : (k : Bool) → ltb h 128 ≡ k → callee_of (opening f isOpen') (total_of G pool (opening f isOpen')) h ≡ Fine u
+        by : (k : Bool) → ltb h 128 ≡ k → callee_of (opening f is_open') (total_of G pool (opening f is_open')) h ≡ Fine u
         by true k =
             let l : h < 128 = ltb-true h 128 k in
             let c : Calls G f h = (i, l) in
             let q = callee_fine (opening f is_open) (total_of G pool (opening f is_open)) h l u e in
-            callee_new (opening f isOpen') (total_of G pool (opening f isOpen')) h l
-            (opening_still f isOpen' h (away h (more c same)) (opening_not f is_open h q.0).1)
-            ∙ on h c q.0 u q.1 (opening f isOpen')
-            (λ x r. opening_still f isOpen' x (away x (more c r)) (opening_not f is_open x (clear_reached (opening f is_open) h u l q.0 q.1 x r)).1)
+            callee_new (opening f is_open') (total_of G pool (opening f is_open')) h l
+            (opening_still f is_open' h (away h (more c same)) (opening_not f is_open h q.0).1)
+            ∙ on h c q.0 u q.1 (opening f is_open')
+            (λ x r. opening_still f is_open' x (away x (more c r)) (opening_not f is_open x (clear_reached (opening f is_open) h u l q.0 q.1 x r)).1)
         by false k =
-            callee_unknown (opening f isOpen') (total_of G pool (opening f isOpen')) h (ltb-false h 128 k)
+            callee_unknown (opening f is_open') (total_of G pool (opening f is_open')) h (ltb-false h 128 k)
             ∙ sym (callee_unknown (opening f is_open) (total_of G pool (opening f is_open)) h (ltb-false h 128 k))
             ∙ e
 
-    elsewhere : (t : ℕ) → Visit is_open f ≡ Fine t → total_of G pool isOpen' f ≡ Fine t
+    elsewhere : (t : ℕ) → Visit is_open f ≡ Fine t → total_of G pool is_open' f ≡ Fine t
     unfolding onward
     elsewhere t e =
         let o = onward_fine (met_of G pool (opening f is_open) (G.calls f) 0) (closes G pool f) t e in
-        total_step G pool f isOpen' hf (away f same)
-        ∙ rw (same_fine (callee_of (opening f is_open) (total_of G pool (opening f is_open))) (callee_of (opening f isOpen') (total_of G pool (opening f isOpen'))) (G.calls f) 0 o.0 callee_elsewhere o.1, onward)
+        total_step G pool f is_open' hf (away f same)
+        ∙ rw (same_fine (callee_of (opening f is_open) (total_of G pool (opening f is_open))) (callee_of (opening f is_open') (total_of G pool (opening f is_open'))) (G.calls f) 0 o.0 callee_elsewhere o.1, onward)
         o.2
 
   pub independent : (is_open : ℕ → Bool) (f : ℕ) → f < 128 → is_open f ≡ false → IndependentOf is_open f (total_of G pool is_open f)
-  independent = by_callees G pool IndependentOf (λ is_open f hf new on t e isOpen' away. elsewhere is_open f hf new on isOpen' away t e)
+  independent = by_callees G pool IndependentOf (λ is_open f hf new on t e is_open' away. elsewhere is_open f hf new on is_open' away t e)
 
   -- ---- 21
   abbrev pub Looped : (ℕ → Bool) → ℕ → ℕ → Type 0

@@ -3,14 +3,11 @@
 use Rattle.callees.proofs.Cases.{cell_known, cell_past, cell_none}
 use Rattle.callees.proofs.cell_of.Goals as goal
 
--- src/lib.rt:59:17
 pub returns-then-row-lt128 : goal.returns-then-row-lt128
 returns-then-row-lt128 c = cell_known _ _ c.function_row-place.ensures _ c.in-Row.is c.if-row-lt128.true
 
--- src/lib.rt:52:1
 pub returns-else-row-lt128 : goal.returns-else-row-lt128
 returns-else-row-lt128 c = cell_past _ _ c.function_row-place.ensures _ c.in-Row.is c.if-row-lt128.false
 
--- src/lib.rt:52:1
 pub returns-in-Nowhere : goal.returns-in-Nowhere
 returns-in-Nowhere c = cell_none _ _ c.function_row-place.ensures c.in-Nowhere.is

@@ -3,18 +3,14 @@
 use Rattle.callees.proofs.Cases.{temp_is, temp_builtin}
 use Rattle.callees.proofs.temp_of.Goals as goal
 
--- src/lib.rt:31:1
 pub returns-in-Fixed : goal.returns-in-Fixed
 returns-in-Fixed c = temp_is _ _ _ _ _ c.move_in-source.ensures c.in-Fixed.is _ _ _ _ c.temp_in-own.ensures
 
--- src/lib.rt:31:1
 pub returns-in-Builtin : goal.returns-in-Builtin
 returns-in-Builtin c = temp_builtin _ _ _ _ c.move_in-source.ensures c.in-Builtin.is _ _ _ _ c.temp_in-own.ensures _ _ c.builtin_of.ensures c.builtin_temp.ensures
 
--- src/lib.rt:31:1
 pub returns-in-Call : goal.returns-in-Call
 returns-in-Call c = temp_is _ _ _ _ _ c.move_in-source.ensures c.in-Call.is _ _ _ _ c.temp_in-own.ensures
 
--- src/lib.rt:31:1
 pub returns-in-Method : goal.returns-in-Method
 returns-in-Method c = temp_is _ _ _ _ _ c.move_in-source.ensures c.in-Method.is _ _ _ _ c.temp_in-own.ensures

@@ -16,10 +16,8 @@ not_noted : (bytes : ℕ) (ids hints : List ℕ) → bytes < length ids / 4 + 25
 unfolding noted_for
 not_noted bytes ids hints h = simp (lt-leb (length ids / 4 + 256) bytes h)
 
--- src/lib.rt:124:1
 pub returns-then-ids-bytes : goal.returns-then-ids-bytes
 returns-then-ids-bytes c = let a = c.args in c.note_rows.ensures ∙ noted-for a.bytes a.ids.now a.hints.now c.if-ids-bytes.true
 
--- src/lib.rt:124:1
 pub returns-else-ids-bytes : goal.returns-else-ids-bytes
 returns-else-ids-bytes c = let a = c.args in not_noted a.bytes a.ids.now a.hints.now c.if-ids-bytes.false

@@ -5,6 +5,5 @@ use Rattle.buffers.specs.declared.Way.{Way}
 use Rattle.buffers.specs.Tread.{on_target}
 use Rattle.pool.proofs.tread.fork_to.Goals as goal
 
--- src/tread.rt:67:1
 pub returns-in-Legal : goal.returns-in-Legal
 returns-in-Legal c = sym (ap (on_target (λ to. Way.Forks to c.args.next)) c.in-Legal.is)

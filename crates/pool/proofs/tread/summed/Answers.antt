@@ -6,14 +6,11 @@ use Rattle.buffers.specs.Tread.{sum_past}
 use Rattle.pool.proofs.Treading.{sum_none}
 use Rattle.pool.proofs.tread.summed.Goals as goal
 
--- src/tread.rt:40:17
 pub returns-then-held-eq0 : goal.returns-then-held-eq0
 returns-then-held-eq0 c = sum_none _ _ c.in-GivesBack.is c.if-held-eq0.true
 
--- src/tread.rt:31:1
 pub returns-in-Borrows : goal.returns-in-Borrows
 returns-in-Borrows c = sym (ap (λ (e : TempEffect). sum_past e c.args.held) c.in-Borrows.is)
 
--- src/tread.rt:31:1
 pub returns-else-held-eq0 : goal.returns-else-held-eq0
 returns-else-held-eq0 c = sym (ap (λ (e : TempEffect). sum_past e c.args.held) c.in-GivesBack.is)

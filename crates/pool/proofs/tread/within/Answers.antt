@@ -5,10 +5,8 @@ use native.Mathlib.Omega.{arith}
 use Rattle.buffers.proofs.Cases.{bounded_over, bounded_within}
 use Rattle.pool.proofs.tread.within.Goals as goal
 
--- src/tread.rt:52:9
 pub returns-then-wide16-sum : goal.returns-then-wide16-sum
 returns-then-wide16-sum c = sym (bounded_over _ _ _ (omega (arith, c.wide16.ensures, c.if-wide16-sum.true)))
 
--- src/tread.rt:48:1
 pub returns : goal.returns
 returns c = sym (bounded_within _ _ _ (omega (arith, c.wide16.ensures, c.if-wide16-sum.false)))

@@ -2,18 +2,14 @@ use mathlib.Core.Path.{◌∙◌}
 use Rattle.pool.proofs.Raising.{skipping_first, skipping_end, skipping_takes, skipping_on}
 use Rattle.pool.proofs.walk.first_of.Goals as goal
 
--- src/walk.rt:193:5
 pub loop-count-init : goal.loop-count-init
 loop-count-init c = skipping_first _ _ _ _ _ c.requires
 
--- src/walk.rt:199:13
 pub returns-then-u32_at-held : goal.returns-then-u32_at-held
 returns-then-u32_at-held c = skipping_takes _ _ _ _ _ _ _ c.loop-count.invariant _ _ _ _ c.loop-count-test.true (c.wide16-offset.ensures ∙ c.u16_at.ensures) (c.wide_held-held.ensures.0 ∙ c.u16_at-in-loop-count.ensures) c.seat-head.ensures c.u32_at.ensures c.if-u32_at-held.true c.wide_held-held.ensures.1
 
--- src/walk.rt:193:5
 pub loop-count-preserved : goal.loop-count-preserved
 loop-count-preserved c = skipping_on _ _ _ _ _ _ _ c.loop-count.invariant _ _ _ _ c.loop-count-test.true (c.wide16-offset.ensures ∙ c.u16_at.ensures) (c.wide_held-held.ensures.0 ∙ c.u16_at-in-loop-count.ensures) c.seat-head.ensures c.u32_at.ensures c.if-u32_at-held.false
 
--- src/walk.rt:181:1
 pub returns : goal.returns
 returns c = skipping_end _ _ _ _ _ _ _ c.loop-count.invariant c.loop-count-test.false

@@ -9,22 +9,17 @@ use Rattle.pool.proofs.walk.note.Goals as goal
 room : (c : goal.Else-is_listed) → c.args.met < 128
 room c = note_room _ _ _ c.requires.0 c.if-cell-eq0.false c.requires.1 (sym c.is_listed.ensures ∙ c.if-is_listed.false)
 
--- src/walk.rt:231:9
 pub returns-then-cell-eq0 : goal.returns-then-cell-eq0
 returns-then-cell-eq0 c = note_none _ _ _ c.requires.0 c.if-cell-eq0.true
 
--- src/walk.rt:233:8
 pub is_listed-requires : goal.is_listed-requires
 is_listed-requires c = listed_room _ _ c.args.cell c.requires.0
 
--- src/walk.rt:234:9
 pub returns-then-is_listed : goal.returns-then-is_listed
 returns-then-is_listed c = note_met _ _ _ c.requires.0 _ c.is_listed.ensures c.if-is_listed.true
 
--- src/walk.rt:236:5
 pub bounds-row-met : goal.bounds-row-met
 bounds-row-met c = let r = room c in omega (arith, c.requires.0.wide)
 
--- src/walk.rt:226:1
 pub returns : goal.returns
 returns c = note_new _ _ _ c.requires.0 c.if-cell-eq0.false c.requires.1 (sym c.is_listed.ensures ∙ c.if-is_listed.false)

@@ -9,30 +9,23 @@ use Rattle.pool.proofs.walk.raise_one.Goals as goal
 inside : (c : goal.After-seat-at) → c.seat-at.result < length c.args.places.now
 inside c = at_inside c.args.numbers.now c.args.places.now c.args.carried.now c.args.head c.args.count c.args.sum c.args.to c.requires.ready _ c.seat-at.ensures c.if-places-count.false
 
--- src/walk.rt:74:9
 pub returns-then-sum-u32_at : goal.returns-then-sum-u32_at
 returns-then-sum-u32_at c = raises_kept _ _ _ _ _ _ _ c.requires.ready _ c.u32_at.ensures c.if-sum-u32_at.true
 
--- src/walk.rt:77:9
 pub returns-then-places-count : goal.returns-then-places-count
 returns-then-places-count c = raises_full _ _ _ _ _ _ _ c.requires.ready _ c.u32_at.ensures c.if-sum-u32_at.false c.if-places-count.true
 
--- src/walk.rt:81:5
 pub offset_bounds-places-at : goal.offset_bounds-places-at
 offset_bounds-places-at c = let w = inside c in omega arith
 
--- src/walk.rt:81:5
 pub bounds-places-at : goal.bounds-places-at
 bounds-places-at c = inside c
 
--- src/walk.rt:82:5
 pub offset_bounds-carried-at : goal.offset_bounds-carried-at
 offset_bounds-carried-at c = let w = inside c in omega (arith, c.requires.ready.alike)
 
--- src/walk.rt:82:5
 pub bounds-carried-at : goal.bounds-carried-at
 bounds-carried-at c = let w = inside c in omega (arith, c.requires.ready.alike)
 
--- src/walk.rt:60:1
 pub returns : goal.returns
 returns c = raises_new _ _ _ _ _ _ _ c.requires.ready _ _ c.u32_at.ensures c.if-sum-u32_at.false c.if-places-count.false c.seat-at.ensures

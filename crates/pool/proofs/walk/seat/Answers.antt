@@ -6,14 +6,11 @@ use native.Mathlib.Omega.{arith}
 use Rattle.pool.proofs.Ring.{seat_before, seat_after}
 use Rattle.pool.proofs.walk.seat.Goals as goal
 
--- src/walk.rt:50:9
 pub returns-then-room-head : goal.returns-then-room-head
 returns-then-room-head c = let a = c.args in let z : a.room - a.head ≡ 0 = omega (arith, c.if-room-head.true) in let e : a.j ≡ a.j - (a.room - a.head) = omega arith in e ∙ seat_after a.room a.head a.j (omega arith)
 
--- src/walk.rt:54:9
 pub returns-then-j-ahead : goal.returns-then-j-ahead
 returns-then-j-ahead c = seat_before _ _ _ c.if-j-ahead.true
 
--- src/walk.rt:46:1
 pub returns : goal.returns
 returns c = seat_after _ _ _ c.if-j-ahead.false

@@ -3,10 +3,8 @@
 use Rattle.pool.proofs.Raising.{on_kept, on_new}
 use Rattle.pool.proofs.walk.straight_on.Goals as goal
 
--- src/walk.rt:131:9
 pub returns-then-sum-u32_at : goal.returns-then-sum-u32_at
 returns-then-sum-u32_at c = on_kept _ _ _ _ _ _ c.requires.ready _ c.u32_at.ensures c.if-sum-u32_at.true
 
--- src/walk.rt:118:1
 pub returns : goal.returns
 returns c = on_new _ _ _ _ _ _ c.requires.ready _ c.u32_at.ensures c.if-sum-u32_at.false c.requires.to_in_bounds.0
