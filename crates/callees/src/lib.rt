@@ -24,7 +24,7 @@ fn builtin_temp(
     let place = codes::find_hinted(hints, list_ids, id);
     match place {
         Place::Row(row) => {
-            if cells::u16_at(flags, row) == 1 {
+            if cells::at(flags, row) == 1 {
                 return TempEffect::Borrows;
             }
             own
@@ -76,7 +76,7 @@ fn block_cell(ids: &[u16], types: &[u16], callees: &[u16], block: FbTypeId) -> u
 {
     let place = program::first_row(types, block.0);
     match place {
-        Place::Row(row) => cell_of(ids, FunctionId(cells::u16_at(callees, row))),
+        Place::Row(row) => cell_of(ids, FunctionId(cells::at(callees, row))),
         Place::Nowhere => 0,
     }
 }

@@ -6,33 +6,32 @@ use Rattle.std.proofs.Math.Path.{ap}
 use Rattle.std.proofs.Math.ListN.{length, length-replicate}
 use Rattle.std.proofs.Math.Seq.{drop-length}
 
-unfoldable pub zeros : ℕ → List ℕ
-zeros n = replicate n 0
+-- so many cells that all hold the same
+unfoldable pub copies : {T : Type 0} → T → ℕ → List T
+copies cell n = replicate n cell
+
+abbrev pub zeros : ℕ → List ℕ
+zeros n = copies 0 n
 
 -- a lent column afterwards: all of it zero, spare cells included
 abbrev pub ZeroAfter : List ℕ → List ℕ → Type 0
 ZeroAfter first last = last ≡ zeros (length first)
 
--- a column that is filled to its end
-pub filled : (first column : List ℕ) (i : ℕ) → length first ≤ i → i ≤ length first → column ≡ replicate i 0 ++ drop i first → column ≡ zeros (length first)
-unfolding zeros
-filled first column i l g e = let n : i ≡ length first = omega arith in e ∙ rw (n, drop-length first) (append-nil _)
-
 pub zero_at : (n i : ℕ) → get_or (zeros n) i 0 ≡ 0
-unfolding zeros
+unfolding copies
 zero_at zero i = refl
 zero_at (suc n) zero = refl
 zero_at (suc n) (suc i) = zero_at n i
 
 cut : (k n : ℕ) → k ≤ n → take k (zeros n) ≡ zeros k
-unfolding zeros
+unfolding copies
 cut zero n h = refl
 cut (suc k) zero h = absurd (omega arith)
 cut (suc k) (suc n) h = ap (λ (u : List ℕ). 0 ∷ u) (cut k n (omega arith))
 
 module _ (column : List ℕ) (n : ℕ) (e : column ≡ zeros n) where
   pub length_zeros : length column ≡ n
-  unfolding zeros
+  unfolding copies
   length_zeros = ap length e ∙ length-replicate n 0
 
   pub any_zero : (i : ℕ) → get_or column i 0 ≡ 0
@@ -45,7 +44,7 @@ module _ (column : List ℕ) (n : ℕ) (e : column ≡ zeros n) where
   as_long m h = e ∙ ap zeros (sym length_zeros ∙ h)
 
 joined : (k n : ℕ) → k ≤ n → zeros k ++ drop k (zeros n) ≡ zeros n
-unfolding zeros
+unfolding copies
 joined zero n h = refl
 joined (suc k) zero h = absurd (omega arith)
 joined (suc k) (suc n) h = ap (λ (u : List ℕ). 0 ∷ u) (joined k n (omega arith))
@@ -65,5 +64,5 @@ module _ (k : ℕ) (column used : List ℕ) (fits : k ≤ length column) (kept :
       rw (drop_at used (drop k column) k back) (ap₂ (λ (u v : List ℕ). u ++ drop k v) (z ∙ ap zeros (sym front)) e ∙ joined k (length column) fits)
 
 pub zeros_are : (n : ℕ) → zeros n ≡ replicate n 0
-unfolding zeros
+unfolding copies
 zeros_are n = refl

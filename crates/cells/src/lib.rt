@@ -1,50 +1,82 @@
-// Lent columns, read and written at any place: past the end a read gives 0 and a write changes nothing, so no caller has anything to show.
+// Lent columns of any cell, read and written at any place: past the end a read gives 0 and a write changes nothing, so no caller has anything to show.
 #![tactic(auto)]
 
 ghost use Rattle.std.specs.Prelude.{◌≡◌, length, get_or, set, take, drop};
-ghost use Rattle.cells.specs.Zeros.{zeros};
+ghost use Rattle.cells.specs.Zeros.{copies};
 
-pub fn u8_at(column: &[u8], i: usize) -> u8
-    ensures { result ≡ get_or column.now i 0 }
-{
-    if i < column.len() { column[i] } else { 0 }
+// A number that cells hold. A column can be filled with its zero.
+pub trait Cell: Copy {
+    ghost zero: { Self };
+
+    fn zero() -> Self
+        ensures { result ≡ zero };
+
+    ghost fills: { Self.Clone.is_infallible zero };
+
+    ghost filled: { (cell : Self) → Self.Clone.is_clone zero cell → cell ≡ zero };
 }
 
-pub fn u16_at(column: &[u16], i: usize) -> u16
-    ensures { result ≡ get_or column.now i 0 }
-{
-    if i < column.len() { column[i] } else { 0 }
+impl Cell for u8 {
+    ghost zero = { 0 };
+
+    fn zero() -> u8 {
+        0
+    }
+
+    ghost fills = { tt };
+
+    ghost filled = { λ _ same. same };
 }
 
-pub fn u32_at(column: &[u32], i: usize) -> u32
-    ensures { result ≡ get_or column.now i 0 }
-{
-    if i < column.len() { column[i] } else { 0 }
+impl Cell for u16 {
+    ghost zero = { 0 };
+
+    fn zero() -> u16 {
+        0
+    }
+
+    ghost fills = { tt };
+
+    ghost filled = { λ _ same. same };
 }
 
-pub fn usize_at(column: &[usize], i: usize) -> usize
-    ensures { result ≡ get_or column.now i 0 }
-{
-    if i < column.len() { column[i] } else { 0 }
+impl Cell for u32 {
+    ghost zero = { 0 };
+
+    fn zero() -> u32 {
+        0
+    }
+
+    ghost fills = { tt };
+
+    ghost filled = { λ _ same. same };
 }
 
-pub fn put_u8(column: &mut [u8], i: usize, value: u8)
-    ensures { column.new ≡ set column.old i value }
+impl Cell for usize {
+    ghost zero = { 0 };
+
+    fn zero() -> usize {
+        0
+    }
+
+    ghost fills = { tt };
+
+    ghost filled = { λ _ same. same };
+}
+
+// The cell at a place, 0 past the end.
+pub fn at<T: Cell>(column: &[T], i: usize) -> T
+    ensures { result ≡ get_or column.now i T.zero }
 {
     if i < column.len() {
-        column[i] = value;
+        column[i]
+    } else {
+        T::zero()
     }
 }
 
-pub fn put_u16(column: &mut [u16], i: usize, value: u16)
-    ensures { column.new ≡ set column.old i value }
-{
-    if i < column.len() {
-        column[i] = value;
-    }
-}
-
-pub fn put_u32(column: &mut [u32], i: usize, value: u32)
+// A value into the cell at a place.
+pub fn put<T: Cell>(column: &mut [T], i: usize, value: T)
     ensures { column.new ≡ set column.old i value }
 {
     if i < column.len() {
@@ -53,7 +85,7 @@ pub fn put_u32(column: &mut [u32], i: usize, value: u32)
 }
 
 // A part of a column: n cells from a place on, or what there is of them.
-pub fn part(column: &[u8], from: usize, n: usize) -> &[u8]
+pub fn part<T>(column: &[T], from: usize, n: usize) -> &[T]
     ensures { result.now ≡ take n (drop from column.now) }
 {
     let end = column.len();
@@ -68,32 +100,9 @@ pub fn part(column: &[u8], from: usize, n: usize) -> &[u8]
 }
 
 // Every cell 0, whatever it held.
-pub fn clear_u8(column: &mut [u8])
-    ensures { column.new ≡ zeros (length column.old) }
+#[tactic(auto, unfolding(crate::specs::Zeros::copies))]
+pub fn clear<T: Cell>(column: &mut [T])
+    ensures { column.new ≡ copies T.zero (length column.old) }
 {
-    let mut i: usize = 0;
-    while i < column.len() {
-        column[i] = 0;
-        i += 1;
-    }
-}
-
-pub fn clear_u16(column: &mut [u16])
-    ensures { column.new ≡ zeros (length column.old) }
-{
-    let mut i: usize = 0;
-    while i < column.len() {
-        column[i] = 0;
-        i += 1;
-    }
-}
-
-pub fn clear_u32(column: &mut [u32])
-    ensures { column.new ≡ zeros (length column.old) }
-{
-    let mut i: usize = 0;
-    while i < column.len() {
-        column[i] = 0;
-        i += 1;
-    }
+    column.fill(T::zero());
 }

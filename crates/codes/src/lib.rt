@@ -38,7 +38,7 @@ pub fn check_rows(ids: &[u16], flags: &[u16]) -> Order
         if id < low {
             return Order::Fault(i);
         }
-        let flag = cells::u16_at(flags, i);
+        let flag = cells::at(flags, i);
         if flag > 1 {
             return Order::Fault(i); // 256 too, whose low byte is 0
         }
@@ -82,8 +82,8 @@ fn entry_at(counts: &[u16], flags: &[u16], place: Place) -> Entry
 {
     match place {
         Place::Row(row) => Entry::Listed {
-            count: cells::u16_at(counts, row),
-            flag: cells::u16_at(flags, row),
+            count: cells::at(counts, row),
+            flag: cells::at(flags, row),
         },
         Place::Nowhere => Entry::Unknown,
     }
@@ -118,7 +118,7 @@ pub fn note_rows(hints: &mut [u16], ids: &[u16])
     let mut row = ids.len();
     while 0 < row {
         row -= 1;
-        cells::put_u16(hints, hint_cell(ids[row]), hint_of(row));
+        cells::put(hints, hint_cell(ids[row]), hint_of(row));
     }
 }
 
@@ -142,7 +142,7 @@ fn wide(x: u16) -> usize
 pub fn find_hinted(hints: &[u16], ids: &[u16], id: u16) -> Place
     ensures { result ≡ hinted_of hints.now ids.now id }
 {
-    let row = wide(cells::u16_at(hints, hint_cell(id)));
+    let row = wide(cells::at(hints, hint_cell(id)));
     if row < ids.len() {
         if ids[row] == id {
             return Place::Row(row);

@@ -29,7 +29,7 @@ fn call_effect(ids: &[u16], parameters: &[u16], callee: FunctionId) -> Known
     let id = callee.0;
     let place = program::function_row(ids, id);
     match place {
-        Place::Row(row) => Known::Moves(Effect::new(cells::u16_at(parameters, row), 1)),
+        Place::Row(row) => Known::Moves(Effect::new(cells::at(parameters, row), 1)),
         Place::Nowhere => Known::UnknownCallee(id),
     }
 }
@@ -48,8 +48,8 @@ fn method_effect(ids: &[u16], parameters: &[u16], given: &[u8], callee: Function
     let place = program::function_row(ids, id);
     match place {
         Place::Row(row) => Known::Moves(Effect::new(
-            cells::u16_at(parameters, row),
-            wide(cells::u8_at(given, row)),
+            cells::at(parameters, row),
+            wide(cells::at(given, row)),
         )),
         Place::Nowhere => Known::UnknownCallee(id),
     }
@@ -102,8 +102,8 @@ fn fill_given(
 {
     let mut row: usize = 0;
     while row < offsets.len() {
-        let value = gives_back(sizes, code, offsets[row], cells::usize_at(lengths, row));
-        cells::put_u8(given, row, value);
+        let value = gives_back(sizes, code, offsets[row], cells::at(lengths, row));
+        cells::put(given, row, value);
         row += 1;
     }
 }

@@ -17,26 +17,26 @@ fn packed(length: usize) -> u32 {
 }
 
 fn put_sizes(answer: &mut [u32], sizes: Sizes) {
-    cells::put_u32(answer, 2, sizes.pool as u32);
-    cells::put_u32(answer, 3, narrow(sizes.rows));
-    cells::put_u32(answer, 4, narrow(sizes.functions));
-    cells::put_u32(answer, 5, narrow(sizes.descriptors));
-    cells::put_u32(answer, 6, narrow(sizes.entries));
-    cells::put_u32(answer, 7, narrow(sizes.code));
+    cells::put(answer, 2, sizes.pool as u32);
+    cells::put(answer, 3, narrow(sizes.rows));
+    cells::put(answer, 4, narrow(sizes.functions));
+    cells::put(answer, 5, narrow(sizes.descriptors));
+    cells::put(answer, 6, narrow(sizes.entries));
+    cells::put(answer, 7, narrow(sizes.code));
 }
 
 // The number, 0 for a file that was read; number, place and sizes go into the answer.
 fn put_outcome(answer: &mut [u32], outcome: Outcome) -> u32 {
     match outcome {
         Outcome::Read(sizes) => {
-            cells::put_u32(answer, 0, 0);
-            cells::put_u32(answer, 1, 0);
+            cells::put(answer, 0, 0);
+            cells::put(answer, 1, 0);
             put_sizes(answer, sizes);
             0
         }
         Outcome::Refused { number, place } => {
-            cells::put_u32(answer, 0, number);
-            cells::put_u32(answer, 1, narrow(place));
+            cells::put(answer, 0, number);
+            cells::put(answer, 1, narrow(place));
             number
         }
     }

@@ -25,7 +25,7 @@ fn sum_u16(sum: u64, column: &[u16]) -> u64 {
     let mut h = sum;
     let mut i = 0;
     while i < column.len() {
-        h = mixed(h, cells::u16_at(column, i) as u64);
+        h = mixed(h, cells::at(column, i) as u64);
         i += 1;
     }
     h
@@ -35,7 +35,7 @@ fn sum_usize(sum: u64, column: &[usize]) -> u64 {
     let mut h = sum;
     let mut i = 0;
     while i < column.len() {
-        h = mixed(h, cells::usize_at(column, i) as u64);
+        h = mixed(h, cells::at(column, i) as u64);
         i += 1;
     }
     h
@@ -45,7 +45,7 @@ pub fn sum_u8(sum: u64, column: &[u8]) -> u64 {
     let mut h = sum;
     let mut i = 0;
     while i < column.len() {
-        h = mixed(h, cells::u8_at(column, i) as u64);
+        h = mixed(h, cells::at(column, i) as u64);
         i += 1;
     }
     h
@@ -193,7 +193,7 @@ fn append(file: &mut [u8; 70000], size: usize, script: &[u8], from: usize, count
 {
     let mut i = 0;
     while i < count {
-        cells::put_u8(file, size + i, cells::u8_at(script, from + i));
+        cells::put(file, size + i, cells::at(script, from + i));
         i += 1;
     }
     if size + count < 70000 {
@@ -262,8 +262,8 @@ fn run(rt: &impl Print, script: &[u8]) -> io::Result<()>
     let mut size = 0;
     let mut at = 0;
     while at < script.len() {
-        let times = wide8(cells::u8_at(script, at)) + 256 * wide8(cells::u8_at(script, at + 1));
-        let count = wide8(cells::u8_at(script, at + 2));
+        let times = wide8(cells::at(script, at)) + 256 * wide8(cells::at(script, at + 1));
+        let count = wide8(cells::at(script, at + 2));
         size = after_run(rt, &mut file, size, script, at + 3, count, times)?;
         at = at + 3 + count;
     }

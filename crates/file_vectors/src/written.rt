@@ -12,7 +12,7 @@ fn number(script: &[u8], from: usize, index: usize) -> usize
     ensures { result < 65536 }
 {
     let at = from % 0x100_0000 + index % 64 * 2;
-    wide8(cells::u8_at(script, at)) + 256 * wide8(cells::u8_at(script, at + 1))
+    wide8(cells::at(script, at)) + 256 * wide8(cells::at(script, at + 1))
 }
 
 fn front_u16(column: &[u16], n: usize) -> &[u16] {
@@ -44,7 +44,7 @@ fn fill(words: &mut [u16; 6145], first: usize, step: usize) {
     let mut word = first % 65536;
     let mut i: usize = 0;
     while i < 6145 {
-        cells::put_u16(words, i, (word % 65536) as u16);
+        cells::put(words, i, (word % 65536) as u16);
         word = word % 65536 + step % 65536;
         i += 1;
     }

@@ -61,18 +61,18 @@ fn cell(
     ensures { result ≡ cell_of c0.now c1.now c2.now c3.now c4.now index row }
 {
     if index == 0 {
-        return cells::u16_at(c0, row);
+        return cells::at(c0, row);
     }
     if index == 1 {
-        return cells::u16_at(c1, row);
+        return cells::at(c1, row);
     }
     if index == 2 {
-        return cells::u16_at(c2, row);
+        return cells::at(c2, row);
     }
     if index == 3 {
-        return narrow(cells::usize_at(c3, row));
+        return narrow(cells::at(c3, row));
     }
-    narrow(cells::usize_at(c4, row))
+    narrow(cells::at(c4, row))
 }
 
 #[derive(Drop)]

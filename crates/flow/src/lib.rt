@@ -93,7 +93,7 @@ pub fn word_at(operands: &[u8], i: usize) -> u16
     if operands.len() <= i {
         return 0;
     }
-    word(operands[i], cells::u8_at(operands, i + 1))
+    word(operands[i], cells::at(operands, i + 1))
 }
 
 // The function that CALL and METHOD_CALL name, the type that FB_CALL names, and the built-in that BUILTIN names.
@@ -164,7 +164,7 @@ pub fn branch_target(marks: &[u8], length: usize, next: usize, word: u16) -> Tar
             if length < to {
                 return Target::Illegal(spot);
             }
-            if cells::u8_at(marks, to) == 0 {
+            if cells::at(marks, to) == 0 {
                 Target::Illegal(spot)
             } else {
                 Target::Legal(to)

@@ -25,7 +25,7 @@ fn mark_ones(marks: &mut [u8], sizes: &[u8; 256], body: &[u8], from: usize) -> u
         if tables::size_in(sizes, body[at]) != 1 {
             return at;
         }
-        cells::put_u8(marks, at, 1);
+        cells::put(marks, at, 1);
         at += 1;
     }
     at
@@ -41,7 +41,7 @@ pub fn mark_starts(marks: &mut [u8], sizes: &[u8; 256], body: &[u8]) -> Decoded
         let step = decode_step(sizes, body, from);
         match step {
             Step::Instruction(_, size) => {
-                cells::put_u8(marks, from, size);
+                cells::put(marks, from, size);
                 at = from + wide(size);
             }
             Step::Unknown(byte) => return Decoded::Unknown(from, byte),

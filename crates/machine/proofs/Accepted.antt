@@ -6,7 +6,7 @@ use native.Mathlib.Omega.{arith}
 use mathlib.Core.Path.{◌≡◌, refl}
 use mathlib.Core.Logic.{inl}
 use mathlib.Core.List.{List, [], ◌∷◌}
-use Rattle.cells.specs.Zeros.{zeros}
+use Rattle.cells.specs.Zeros.{copies, zeros}
 use Rattle.tables.specs.declared.Effect.{Effect}
 use Rattle.tables.specs.Set.{effect, size_of, move_of, temp_of, instruction_set}
 use Rattle.flow.specs.declared.Step.TheVariants.{Instruction}
@@ -31,47 +31,47 @@ abbrev pub acts : {q : PoolProgram} {fr : Frame} (opcode size : ℕ) (e : Effect
 acts opcode size e d k = record { opcode = opcode; size = size; effect = e; decodes = d; known = k }
 
 borrow_1 : Step chain (frame 0 0 0 0 ∷ []) (frame 0 5 1 1 ∷ [])
-unfolding zeros size_of move_of temp_of instruction_set step_by operands_at word_at flow_of moved target_of walk_by marks_of first_of place_of entry_of body_of known_of temps_by opens_by
+unfolding copies size_of move_of temp_of instruction_set step_by operands_at word_at flow_of moved target_of walk_by marks_of first_of place_of entry_of body_of known_of temps_by opens_by
 borrow_1 = goes (acts 0xBC 5 (effect 0 1) refl refl) 5 refl
 
 call_2 : Step chain (frame 0 5 1 1 ∷ []) (frame 1 0 0 0 ∷ frame 0 10 2 1 ∷ [])
-unfolding zeros size_of move_of temp_of instruction_set step_by operands_at word_at flow_of moved target_of walk_by marks_of first_of place_of entry_of body_of known_of temps_by opens_by
+unfolding copies size_of move_of temp_of instruction_set step_by operands_at word_at flow_of moved target_of walk_by marks_of first_of place_of entry_of body_of known_of temps_by opens_by
 call_2 = goes (acts 0x84 5 (effect 0 1) refl refl) 10 refl
 
 borrow_2 : Step chain (frame 1 0 0 0 ∷ frame 0 10 2 1 ∷ []) (frame 1 5 1 1 ∷ frame 0 10 2 1 ∷ [])
-unfolding zeros size_of move_of temp_of instruction_set step_by operands_at word_at flow_of moved target_of walk_by marks_of first_of place_of entry_of body_of known_of temps_by opens_by
+unfolding copies size_of move_of temp_of instruction_set step_by operands_at word_at flow_of moved target_of walk_by marks_of first_of place_of entry_of body_of known_of temps_by opens_by
 borrow_2 = goes (acts 0xBC 5 (effect 0 1) refl refl) 5 refl
 
 call_3 : Step chain (frame 1 5 1 1 ∷ frame 0 10 2 1 ∷ []) (frame 2 0 0 0 ∷ frame 1 10 2 1 ∷ frame 0 10 2 1 ∷ [])
-unfolding zeros size_of move_of temp_of instruction_set step_by operands_at word_at flow_of moved target_of walk_by marks_of first_of place_of entry_of body_of known_of temps_by opens_by
+unfolding copies size_of move_of temp_of instruction_set step_by operands_at word_at flow_of moved target_of walk_by marks_of first_of place_of entry_of body_of known_of temps_by opens_by
 call_3 = goes (acts 0x84 5 (effect 0 1) refl refl) 10 refl
 
 borrow_3 : Step chain (frame 2 0 0 0 ∷ frame 1 10 2 1 ∷ frame 0 10 2 1 ∷ []) (frame 2 5 1 1 ∷ frame 1 10 2 1 ∷ frame 0 10 2 1 ∷ [])
-unfolding zeros size_of move_of temp_of instruction_set step_by operands_at word_at flow_of moved target_of walk_by marks_of first_of place_of entry_of body_of known_of temps_by opens_by
+unfolding copies size_of move_of temp_of instruction_set step_by operands_at word_at flow_of moved target_of walk_by marks_of first_of place_of entry_of body_of known_of temps_by opens_by
 borrow_3 = goes (acts 0xBC 5 (effect 0 1) refl refl) 5 refl
 
 give_back_3 : Step chain (frame 2 5 1 1 ∷ frame 1 10 2 1 ∷ frame 0 10 2 1 ∷ []) (frame 2 10 0 0 ∷ frame 1 10 2 1 ∷ frame 0 10 2 1 ∷ [])
-unfolding zeros size_of move_of temp_of instruction_set step_by operands_at word_at flow_of moved target_of walk_by marks_of first_of place_of entry_of body_of known_of temps_by opens_by
+unfolding copies size_of move_of temp_of instruction_set step_by operands_at word_at flow_of moved target_of walk_by marks_of first_of place_of entry_of body_of known_of temps_by opens_by
 give_back_3 = goes (acts 0xC0 5 (effect 1 0) refl refl) 10 refl
 
 return_3 : Step chain (frame 2 10 0 0 ∷ frame 1 10 2 1 ∷ frame 0 10 2 1 ∷ []) (frame 1 10 2 1 ∷ frame 0 10 2 1 ∷ [])
-unfolding zeros size_of move_of temp_of instruction_set step_by operands_at word_at flow_of moved target_of walk_by marks_of first_of place_of entry_of body_of known_of temps_by opens_by
+unfolding copies size_of move_of temp_of instruction_set step_by operands_at word_at flow_of moved target_of walk_by marks_of first_of place_of entry_of body_of known_of temps_by opens_by
 return_3 = returns (acts 0x8C 1 (effect 0 0) refl refl) refl
 
 drop_2 : Step chain (frame 1 10 2 1 ∷ frame 0 10 2 1 ∷ []) (frame 1 11 1 1 ∷ frame 0 10 2 1 ∷ [])
-unfolding zeros size_of move_of temp_of instruction_set step_by operands_at word_at flow_of moved target_of walk_by marks_of first_of place_of entry_of body_of known_of temps_by opens_by
+unfolding copies size_of move_of temp_of instruction_set step_by operands_at word_at flow_of moved target_of walk_by marks_of first_of place_of entry_of body_of known_of temps_by opens_by
 drop_2 = goes (acts 0x90 1 (effect 1 0) refl refl) 11 refl
 
 return_2 : Step chain (frame 1 11 1 1 ∷ frame 0 10 2 1 ∷ []) (frame 0 10 2 1 ∷ [])
-unfolding zeros size_of move_of temp_of instruction_set step_by operands_at word_at flow_of moved target_of walk_by marks_of first_of place_of entry_of body_of known_of temps_by opens_by
+unfolding copies size_of move_of temp_of instruction_set step_by operands_at word_at flow_of moved target_of walk_by marks_of first_of place_of entry_of body_of known_of temps_by opens_by
 return_2 = returns (acts 0x88 1 (effect 0 0) refl refl) refl
 
 drop_1 : Step chain (frame 0 10 2 1 ∷ []) (frame 0 11 1 1 ∷ [])
-unfolding zeros size_of move_of temp_of instruction_set step_by operands_at word_at flow_of moved target_of walk_by marks_of first_of place_of entry_of body_of known_of temps_by opens_by
+unfolding copies size_of move_of temp_of instruction_set step_by operands_at word_at flow_of moved target_of walk_by marks_of first_of place_of entry_of body_of known_of temps_by opens_by
 drop_1 = goes (acts 0x90 1 (effect 1 0) refl refl) 11 refl
 
 return_1 : Step chain (frame 0 11 1 1 ∷ []) ([])
-unfolding zeros size_of move_of temp_of instruction_set step_by operands_at word_at flow_of moved target_of walk_by marks_of first_of place_of entry_of body_of known_of temps_by opens_by
+unfolding copies size_of move_of temp_of instruction_set step_by operands_at word_at flow_of moved target_of walk_by marks_of first_of place_of entry_of body_of known_of temps_by opens_by
 return_1 = returns (acts 0x88 1 (effect 0 0) refl refl) refl
 
 -- three frames

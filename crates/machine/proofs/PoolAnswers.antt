@@ -1,7 +1,7 @@
 -- What the pool check answers for the programs of Programs.antt, computed from its definition.
 -- Assumes nothing.
 use mathlib.Core.Path.{◌≡◌, refl}
-use Rattle.cells.specs.Zeros.{zeros}
+use Rattle.cells.specs.Zeros.{copies, zeros}
 use Rattle.tables.specs.Set.{size_of, move_of, temp_of, instruction_set}
 use Rattle.flow.specs.Decode.{step_by, operands_at, word_at, flow_of, moved, target_of}
 use Rattle.flow.specs.Walk.{walk_by, marks_of}
@@ -29,5 +29,5 @@ pub pool_answers : PoolGives chain Verdict.Accepted
     × (PoolGives left_over Verdict.Accepted
     × (PoolGives greedy (Verdict.ExceedsDeclaredPool 1 0 2 1)
     × PoolGives circle (Verdict.RecursiveCallGraph 1))))))
-unfolding zeros size_of move_of temp_of instruction_set step_by operands_at word_at flow_of moved target_of walk_by marks_of first_of faulty rows_of place_of body_of table_refused too_many pool_too_many scratch_short repeats repeated_of outside outside_of directory_of contents_of on_pool input_of pool_input flowing bounded acting tread_of raise follow noted used walk_from begun turns_of walk_of temps_by opens_by onward if_open if_known largest_of closes total_by total_of visit_of row_at body_walk program_answer entries_of pool_answer
+unfolding copies size_of move_of temp_of instruction_set step_by operands_at word_at flow_of moved target_of walk_by marks_of first_of faulty rows_of place_of body_of table_refused too_many pool_too_many scratch_short repeats repeated_of outside outside_of directory_of contents_of on_pool input_of pool_input flowing bounded acting tread_of raise follow noted used walk_from begun turns_of walk_of temps_by opens_by onward if_open if_known largest_of closes total_by total_of visit_of row_at body_walk program_answer entries_of pool_answer
 pool_answers = (refl, (refl, (refl, (refl, (refl, (refl, refl))))))

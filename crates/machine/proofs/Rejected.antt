@@ -6,7 +6,7 @@ use native.Mathlib.Omega.{arith}
 use mathlib.Core.Path.{◌≡◌, refl}
 use mathlib.Core.Logic.{inl, inr, ⊎_elim}
 use mathlib.Core.List.{List, [], ◌∷◌}
-use Rattle.cells.specs.Zeros.{zeros}
+use Rattle.cells.specs.Zeros.{copies, zeros}
 use Rattle.tables.specs.Set.{effect, size_of, move_of, temp_of, instruction_set}
 use Rattle.flow.specs.declared.Step.TheVariants.{End}
 use Rattle.flow.specs.declared.Flow.TheVariants.{Return}
@@ -33,7 +33,7 @@ unfolding place_of first_of
 pop_run = record { entry = 0; listed = (1, inl refl, refl); steps = begins }
 
 pub underflows : Run empty_pop (frame 0 0 0 0 ∷ []) × ((x : Acts empty_pop (frame 0 0 0 0)) × (0 < x.effect.takes))
-unfolding zeros size_of move_of temp_of instruction_set step_by operands_at word_at flow_of moved target_of walk_by marks_of first_of place_of entry_of body_of known_of temps_by opens_by
+unfolding copies size_of move_of temp_of instruction_set step_by operands_at word_at flow_of moved target_of walk_by marks_of first_of place_of entry_of body_of known_of temps_by opens_by
 underflows = (pop_run, (acts 0x90 1 (effect 1 0) refl refl, omega arith))
 
 -- 6: LOAD_TRUE leaves 1 where 0 is declared
@@ -42,24 +42,24 @@ unfolding place_of first_of
 deep_run = record { entry = 0; listed = (1, inl refl, refl); steps = begins }
 
 pub exceeds : Run too_deep (frame 0 0 0 0 ∷ []) × ((x : Acts too_deep (frame 0 0 0 0)) × (declared too_deep (frame 0 0 0 0) < depth_after x.effect 0))
-unfolding zeros size_of move_of temp_of instruction_set step_by operands_at word_at flow_of moved target_of walk_by marks_of first_of place_of entry_of body_of known_of temps_by opens_by
+unfolding copies size_of move_of temp_of instruction_set step_by operands_at word_at flow_of moved target_of walk_by marks_of first_of place_of entry_of body_of known_of temps_by opens_by
 exceeds = (deep_run, (acts 0x05 1 (effect 0 1) refl refl, omega arith))
 
 -- 8: JMP_IF_NOT either way comes to RET_VOID at 0, or over LOAD_TRUE at 1
 load : Step uneven (frame 0 0 0 0 ∷ []) (frame 0 1 1 0 ∷ [])
-unfolding zeros size_of move_of temp_of instruction_set step_by operands_at word_at flow_of moved target_of walk_by marks_of first_of place_of entry_of body_of known_of temps_by opens_by
+unfolding copies size_of move_of temp_of instruction_set step_by operands_at word_at flow_of moved target_of walk_by marks_of first_of place_of entry_of body_of known_of temps_by opens_by
 load = goes (acts 0x05 1 (effect 0 1) refl refl) 1 refl
 
 jumps : Step uneven (frame 0 1 1 0 ∷ []) (frame 0 5 0 0 ∷ [])
-unfolding zeros size_of move_of temp_of instruction_set step_by operands_at word_at flow_of moved target_of walk_by marks_of first_of place_of entry_of body_of known_of temps_by opens_by
+unfolding copies size_of move_of temp_of instruction_set step_by operands_at word_at flow_of moved target_of walk_by marks_of first_of place_of entry_of body_of known_of temps_by opens_by
 jumps = goes (acts 0x80 3 (effect 1 0) refl refl) 5 (5, refl, inl refl)
 
 stays : Step uneven (frame 0 1 1 0 ∷ []) (frame 0 4 0 0 ∷ [])
-unfolding zeros size_of move_of temp_of instruction_set step_by operands_at word_at flow_of moved target_of walk_by marks_of first_of place_of entry_of body_of known_of temps_by opens_by
+unfolding copies size_of move_of temp_of instruction_set step_by operands_at word_at flow_of moved target_of walk_by marks_of first_of place_of entry_of body_of known_of temps_by opens_by
 stays = goes (acts 0x80 3 (effect 1 0) refl refl) 4 (5, refl, inr refl)
 
 load_again : Step uneven (frame 0 4 0 0 ∷ []) (frame 0 5 1 0 ∷ [])
-unfolding zeros size_of move_of temp_of instruction_set step_by operands_at word_at flow_of moved target_of walk_by marks_of first_of place_of entry_of body_of known_of temps_by opens_by
+unfolding copies size_of move_of temp_of instruction_set step_by operands_at word_at flow_of moved target_of walk_by marks_of first_of place_of entry_of body_of known_of temps_by opens_by
 load_again = goes (acts 0x05 1 (effect 0 1) refl refl) 5 refl
 
 even_run : Run uneven (frame 0 5 0 0 ∷ [])
@@ -71,12 +71,12 @@ unfolding place_of first_of
 odd_run = record { entry = 0; listed = (1, inl refl, refl); steps = then (then (then begins load) stays) load_again }
 
 pub merges : Run uneven (frame 0 5 0 0 ∷ []) × (Run uneven (frame 0 5 1 0 ∷ []) × ((x : Acts uneven (frame 0 5 1 0)) × (flow_at uneven (frame 0 5 1 0) x ≡ Return) × (x.opcode ≡ 0x8C) × (depth_after x.effect 1 ≡ 1)))
-unfolding zeros size_of move_of temp_of instruction_set step_by operands_at word_at flow_of moved target_of walk_by marks_of first_of place_of entry_of body_of known_of temps_by opens_by
+unfolding copies size_of move_of temp_of instruction_set step_by operands_at word_at flow_of moved target_of walk_by marks_of first_of place_of entry_of body_of known_of temps_by opens_by
 merges = (even_run, (odd_run, (acts 0x8C 1 (effect 0 0) refl refl, refl, refl, refl)))
 
 -- 9: the body's end at 1
 load_last : Step left_over (frame 0 0 0 0 ∷ []) (frame 0 1 1 0 ∷ [])
-unfolding zeros size_of move_of temp_of instruction_set step_by operands_at word_at flow_of moved target_of walk_by marks_of first_of place_of entry_of body_of known_of temps_by opens_by
+unfolding copies size_of move_of temp_of instruction_set step_by operands_at word_at flow_of moved target_of walk_by marks_of first_of place_of entry_of body_of known_of temps_by opens_by
 load_last = goes (acts 0x05 1 (effect 0 1) refl refl) 1 refl
 
 end_run : Run left_over (frame 0 1 1 0 ∷ [])
@@ -84,20 +84,20 @@ unfolding place_of first_of
 end_run = record { entry = 0; listed = (1, inl refl, refl); steps = then begins load_last }
 
 pub leaves_over : Run left_over (frame 0 1 1 0 ∷ []) × (decoded_at left_over (frame 0 1 1 0) ≡ End)
-unfolding zeros size_of move_of temp_of instruction_set step_by operands_at word_at flow_of moved target_of walk_by marks_of first_of place_of entry_of body_of known_of temps_by opens_by
+unfolding copies size_of move_of temp_of instruction_set step_by operands_at word_at flow_of moved target_of walk_by marks_of first_of place_of entry_of body_of known_of temps_by opens_by
 leaves_over = (end_run, refl)
 
 -- 20: two buffers are held, of a pool of 1
 borrow_1 : Step greedy (frame 0 0 0 0 ∷ []) (frame 0 5 1 1 ∷ [])
-unfolding zeros size_of move_of temp_of instruction_set step_by operands_at word_at flow_of moved target_of walk_by marks_of first_of place_of entry_of body_of known_of temps_by opens_by
+unfolding copies size_of move_of temp_of instruction_set step_by operands_at word_at flow_of moved target_of walk_by marks_of first_of place_of entry_of body_of known_of temps_by opens_by
 borrow_1 = goes (acts 0xBC 5 (effect 0 1) refl refl) 5 refl
 
 call_2 : Step greedy (frame 0 5 1 1 ∷ []) (frame 1 0 0 0 ∷ frame 0 10 2 1 ∷ [])
-unfolding zeros size_of move_of temp_of instruction_set step_by operands_at word_at flow_of moved target_of walk_by marks_of first_of place_of entry_of body_of known_of temps_by opens_by
+unfolding copies size_of move_of temp_of instruction_set step_by operands_at word_at flow_of moved target_of walk_by marks_of first_of place_of entry_of body_of known_of temps_by opens_by
 call_2 = goes (acts 0x84 5 (effect 0 1) refl refl) 10 refl
 
 borrow_2 : Step greedy (frame 1 0 0 0 ∷ frame 0 10 2 1 ∷ []) (frame 1 5 1 1 ∷ frame 0 10 2 1 ∷ [])
-unfolding zeros size_of move_of temp_of instruction_set step_by operands_at word_at flow_of moved target_of walk_by marks_of first_of place_of entry_of body_of known_of temps_by opens_by
+unfolding copies size_of move_of temp_of instruction_set step_by operands_at word_at flow_of moved target_of walk_by marks_of first_of place_of entry_of body_of known_of temps_by opens_by
 borrow_2 = goes (acts 0xBC 5 (effect 0 1) refl refl) 5 refl
 
 greedy_run : Run greedy (frame 1 5 1 1 ∷ frame 0 10 2 1 ∷ [])
@@ -110,11 +110,11 @@ overruns = (greedy_run, omega arith)
 
 -- 21: a function's second frame
 there : Step circle (frame 0 0 0 0 ∷ []) (frame 1 0 0 0 ∷ frame 0 5 1 0 ∷ [])
-unfolding zeros size_of move_of temp_of instruction_set step_by operands_at word_at flow_of moved target_of walk_by marks_of first_of place_of entry_of body_of known_of temps_by opens_by
+unfolding copies size_of move_of temp_of instruction_set step_by operands_at word_at flow_of moved target_of walk_by marks_of first_of place_of entry_of body_of known_of temps_by opens_by
 there = goes (acts 0x84 5 (effect 0 1) refl refl) 5 refl
 
 back : Step circle (frame 1 0 0 0 ∷ frame 0 5 1 0 ∷ []) (frame 0 0 0 0 ∷ frame 1 5 1 0 ∷ frame 0 5 1 0 ∷ [])
-unfolding zeros size_of move_of temp_of instruction_set step_by operands_at word_at flow_of moved target_of walk_by marks_of first_of place_of entry_of body_of known_of temps_by opens_by
+unfolding copies size_of move_of temp_of instruction_set step_by operands_at word_at flow_of moved target_of walk_by marks_of first_of place_of entry_of body_of known_of temps_by opens_by
 back = goes (acts 0x84 5 (effect 0 1) refl refl) 5 refl
 
 circle_run : Run circle (frame 0 0 0 0 ∷ frame 1 5 1 0 ∷ frame 0 5 1 0 ∷ [])

@@ -1,7 +1,7 @@
 -- What the stack check answers for the programs of Programs.antt, computed from its definition.
 -- Assumes nothing.
 use mathlib.Core.Path.{◌≡◌, refl}
-use Rattle.cells.specs.Zeros.{zeros}
+use Rattle.cells.specs.Zeros.{copies, zeros}
 use Rattle.tables.specs.Set.{size_of, move_of, instruction_set}
 use Rattle.flow.specs.Decode.{step_by, operands_at, word_at, flow_of, moved, target_of}
 use Rattle.flow.specs.Walk.{walk_by, marks_of}
@@ -28,5 +28,5 @@ pub stack_answers : StackGives chain Verdict.Accepted
     × (StackGives left_over (Verdict.Violated 1 (Violation.UnbalancedReturn 1 0 1))
     × (StackGives greedy Verdict.Accepted
     × StackGives circle Verdict.Accepted)))))
-unfolding zeros size_of move_of instruction_set step_by operands_at word_at flow_of moved target_of walk_by marks_of faulty rows_of first_of place_of entry_of body_of table_refused too_many scratch_short repeats repeated_of outside outside_of directory_of contents_of input_of stack_input flowing moving acting look_of put follow walk_from begun walk_of known_of body_answer functions_answer stack_answer
+unfolding copies size_of move_of instruction_set step_by operands_at word_at flow_of moved target_of walk_by marks_of faulty rows_of first_of place_of entry_of body_of table_refused too_many scratch_short repeats repeated_of outside outside_of directory_of contents_of input_of stack_input flowing moving acting look_of put follow walk_from begun walk_of known_of body_answer functions_answer stack_answer
 stack_answers = (refl, (refl, (refl, (refl, (refl, (refl, refl))))))

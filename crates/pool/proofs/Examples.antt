@@ -5,7 +5,7 @@ use Prim.Native.Nat.{ℕ, suc, ◌+◌, ◌*◌}
 use mathlib.Core.Path.{◌≡◌, refl}
 use mathlib.Core.List.{List, [], ◌∷◌, ◌++◌}
 use lib.ListN.{length}
-use Rattle.cells.specs.Zeros.{zeros}
+use Rattle.cells.specs.Zeros.{copies, zeros}
 use Rattle.tables.specs.Set.{size_of, move_of, temp_of, instruction_set}
 use Rattle.flow.specs.Decode.{step_by, operands_at, word_at, flow_of, moved, target_of}
 use Rattle.flow.specs.Walk.{walk_by, marks_of}
@@ -98,5 +98,5 @@ Hold (e ∷ es) = (answered e ≡ record { number = e.number; function = e.funct
 
 -- every example's answer is as 01 has it
 pub examples_hold : Hold examples
-unfolding Hold examples zeros size_of move_of temp_of instruction_set step_by operands_at word_at flow_of moved target_of walk_by marks_of first_of faulty rows_of place_of body_of table_refused too_many pool_too_many scratch_short repeats repeated_of outside outside_of directory_of contents_of on_pool input_of pool_input flowing bounded acting tread_of raise follow noted used walk_from begun turns_of walk_of temps_by opens_by onward if_open if_known largest_of closes total_by total_of visit_of row_at fields_by refusal_fields body_walk program_answer entries_of pool_answer fields_of
+unfolding Hold examples copies size_of move_of temp_of instruction_set step_by operands_at word_at flow_of moved target_of walk_by marks_of first_of faulty rows_of place_of body_of table_refused too_many pool_too_many scratch_short repeats repeated_of outside outside_of directory_of contents_of on_pool input_of pool_input flowing bounded acting tread_of raise follow noted used walk_from begun turns_of walk_of temps_by opens_by onward if_open if_known largest_of closes total_by total_of visit_of row_at fields_by refusal_fields body_walk program_answer entries_of pool_answer fields_of
 examples_hold = (refl, (refl, (refl, (refl, (refl, (refl, tt))))))

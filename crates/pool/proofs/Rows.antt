@@ -7,7 +7,7 @@ use mathlib.Core.Path.{◌≡◌, refl, ◌∙◌, ap, ap₂, sym}
 use mathlib.Core.List.{List, [], ◌∷◌, ◌++◌}
 use lib.ListN.{length, get_or, take, drop, get_or-append, length-drop}
 use lib.Seq.{length-take-le, get_or-take, get_or-drop, get_or-append-add}
-use Rattle.cells.specs.Zeros.{zeros}
+use Rattle.cells.specs.Zeros.{copies, zeros}
 use Rattle.buffers.specs.declared.Used.{Used}
 use Rattle.buffers.specs.Walk.{Walked}
 use Rattle.visit.specs.Cells.{callees_in}
@@ -18,7 +18,7 @@ use Rattle.pool.proofs.Listing.{has_at}
 
 -- a column whose cells are all zero
 all_zero : (column : List ℕ) → ((i : ℕ) → i < length column → get_or column i 0 ≡ 0) → column ≡ zeros (length column)
-unfolding zeros
+unfolding copies
 all_zero [] z = refl
 all_zero (x ∷ column) z = ap₂ (λ (a : ℕ) (l : List ℕ). a ∷ l) (z 0 (omega arith)) (all_zero column (λ i h. z (suc i) (omega arith)))
 

@@ -92,8 +92,8 @@ fn one(
         blocks,
         pool,
     );
-    cells::clear_u8(&mut marks[..n]);
-    cells::clear_u32(&mut numbers[..e]);
+    cells::clear(&mut marks[..n]);
+    cells::clear(&mut numbers[..e]);
     used
 }
 
@@ -188,8 +188,8 @@ pub(crate) fn all(
     while row < ids.len() {
         let body = cells::part(
             code,
-            cells::usize_at(offsets, row),
-            cells::usize_at(lengths, row),
+            cells::at(offsets, row),
+            cells::at(lengths, row),
         );
         let used = at_row(
             marks, numbers, places, carried, cells, sizes, words, body, hints, list_ids, flags,
@@ -198,14 +198,14 @@ pub(crate) fn all(
         match used {
             Used::Undecodable => {
                 return Usages {
-                    ended: Ended::Undecodable(cells::u16_at(ids, row)),
+                    ended: Ended::Undecodable(cells::at(ids, row)),
                     weights,
                     peaks,
                 };
             }
             Used::QueueFull => {
                 return Usages {
-                    ended: Ended::QueueFull(cells::u16_at(ids, row)),
+                    ended: Ended::QueueFull(cells::at(ids, row)),
                     weights,
                     peaks,
                 };

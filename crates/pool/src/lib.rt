@@ -51,10 +51,10 @@ fn visited(
     let seen = visit::visit_entries(cells, weights, pool, ids, entries);
     match seen {
         Visited::Fine(_) => Verdict::Accepted,
-        Visited::Cycle(row) => Verdict::RecursiveCallGraph(cells::u16_at(ids, row)),
+        Visited::Cycle(row) => Verdict::RecursiveCallGraph(cells::at(ids, row)),
         Visited::Over(row, total) => Verdict::ExceedsDeclaredPool {
-            function: cells::u16_at(ids, row),
-            offset: cells::usize_at(peaks, row),
+            function: cells::at(ids, row),
+            offset: cells::at(peaks, row),
             depth: total,
             declared: pool,
         },
@@ -106,9 +106,9 @@ fn checked(
     let words = tables::words();
     let mut hints = [0u16; 8192];
     codes::note_for(&mut hints, list_ids, code.len());
-    cells::clear_u8(marks);
-    cells::clear_u32(depths);
-    cells::clear_u8(callee_cells);
+    cells::clear(marks);
+    cells::clear(depths);
+    cells::clear(callee_cells);
     let usages = bodies::all(
         marks,
         depths,
@@ -129,9 +129,9 @@ fn checked(
         pool,
     );
     let verdict = judged(callee_cells, ids, entries, pool, usages);
-    cells::clear_u16(queue);
-    cells::clear_u16(queue_depths);
-    cells::clear_u8(callee_cells);
+    cells::clear(queue);
+    cells::clear(queue_depths);
+    cells::clear(callee_cells);
     verdict
 }
 

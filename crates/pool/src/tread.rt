@@ -110,7 +110,7 @@ pub(crate) fn tread(
         };
     }
     let op = body[offset];
-    let size = cells::u8_at(marks, offset);
+    let size = cells::at(marks, offset);
     let next = offset + wide8(size);
     if tables::plain_in(words, op) {
         let sum = summed(tables::temp_in(words, op), held);

@@ -70,7 +70,7 @@ fn raise_one(
     requires to_in_bounds { (to < length numbers.old) × (sum < 65536) }
     ensures { Raises result numbers.new places.new carried.new head (raise (length places.old) numbers.old (waiting places.old carried.old head count) sum to) }
 {
-    if sum + 1 <= cells::u32_at(numbers, to) {
+    if sum + 1 <= cells::at(numbers, to) {
         return Raised::Go(count);
     }
     if places.len() <= count {
@@ -127,7 +127,7 @@ fn straight_on(
     requires to_in_bounds { (to < length numbers.old) × (sum < 65536) }
     ensures { Turns 0 sum result numbers.new places.new carried.new head (raise (length places.old) numbers.old (waiting places.old carried.old head 0) sum to) }
 {
-    if sum + 1 <= cells::u32_at(numbers, to) {
+    if sum + 1 <= cells::at(numbers, to) {
         return Turn::Go(0);
     }
     numbers[to] = sum + 1;
@@ -183,11 +183,11 @@ fn first_of(numbers: &[u32], places: &[u16], carried: &[u16], from: usize, waits
     let mut head = from;
     let mut count = waits;
     while 0 < count {
-        let offset = wide16(cells::u16_at(places, head));
-        let held = wide_held(cells::u16_at(carried, head));
+        let offset = wide16(cells::at(places, head));
+        let held = wide_held(cells::at(carried, head));
         head = seat(places.len(), head, 1);
         count -= 1;
-        if cells::u32_at(numbers, offset) <= held + 1 {
+        if cells::at(numbers, offset) <= held + 1 {
             return First::Waits {
                 offset,
                 held,

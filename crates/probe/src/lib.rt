@@ -73,12 +73,12 @@ pub extern "C" fn probe_lookup(ids: &[u16], counts: &[u16], flags: &[u16], id: u
 }
 
 fn put_fields(answer: &mut [u32], fields: Fields) -> u32 {
-    cells::put_u32(answer, 0, fields.number);
-    cells::put_u32(answer, 1, fields.function);
-    cells::put_u32(answer, 2, fields.offset);
-    cells::put_u32(answer, 3, fields.a);
-    cells::put_u32(answer, 4, fields.b);
-    cells::put_u32(answer, 5, fields.c);
+    cells::put(answer, 0, fields.number);
+    cells::put(answer, 1, fields.function);
+    cells::put(answer, 2, fields.offset);
+    cells::put(answer, 3, fields.a);
+    cells::put(answer, 4, fields.b);
+    cells::put(answer, 5, fields.c);
     fields.number
 }
 

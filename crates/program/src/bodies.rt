@@ -15,7 +15,7 @@ pub fn outside_row(offsets: &[usize], lengths: &[usize], code: usize) -> Place
             return Place::Row(i);
         }
         let left = code - offset;
-        if cells::usize_at(lengths, i) > left {
+        if cells::at(lengths, i) > left {
             return Place::Row(i);
         }
         i += 1;

@@ -248,9 +248,9 @@ fn ask_changed(
     offsets: &mut [usize],
     lengths: &mut [usize],
 ) -> io::Result<()> {
-    cells::put_u16(ids, change.id_row, change.id);
-    cells::put_u16(list_ids, change.list_row, change.list_id);
-    cells::put_u16(flags, change.flag_row, change.flag);
+    cells::put(ids, change.id_row, change.id);
+    cells::put(list_ids, change.list_row, change.list_id);
+    cells::put(flags, change.flag_row, change.flag);
     put_usize(offsets, change.body_row, change.offset);
     put_usize(lengths, change.body_row, change.length);
     ask_hundred(

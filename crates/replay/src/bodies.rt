@@ -99,8 +99,8 @@ fn same_target(target: Target, legal: u8, recorded: u64) -> bool {
 
 // The way on and the target of the instruction at an offset of a body whose starts are marked.
 fn same_way(marks: &[u8], body: &[u8], offset: usize, way: u8, legal: u8, recorded: u64) -> bool {
-    let op = cells::u8_at(body, offset);
-    let size = cells::u8_at(marks, offset);
+    let op = cells::at(body, offset);
+    let size = cells::at(marks, offset);
     let next = offset.wrapping_add(wide(size));
     match flow::flow_of(op, flow::operands_of(body, offset, size)) {
         Flow::Next => way == 0,

@@ -66,7 +66,7 @@ pub fn replay(data: &[u8]) -> Tally {
         let wanted = (id % 65536) as u16;
         let mut listed = false;
         if row < rows {
-            listed = cells::u16_at(&ids, row) == wanted;
+            listed = cells::at(&ids, row) == wanted;
         }
         let e = codes::lookup(
             front(&ids, rows),
@@ -77,8 +77,8 @@ pub fn replay(data: &[u8]) -> Tally {
         let same = same_entry(
             e,
             listed,
-            cells::u16_at(&counts, row),
-            cells::u16_at(&flags, row),
+            cells::at(&counts, row),
+            cells::at(&flags, row),
         );
         t = tally::one_more(t, same);
         if listed {

@@ -40,7 +40,7 @@ pub fn part(data: &[u8], from: usize, n: usize) -> &[u8] {
 
 // The byte that stands i bytes after a place.
 pub fn byte(data: &[u8], at: usize, i: usize) -> u8 {
-    cells::u8_at(data, at.wrapping_add(i))
+    cells::at(data, at.wrapping_add(i))
 }
 
 // Two bytes, low byte first.

@@ -1,7 +1,7 @@
 -- 01's bench examples, in a single table under a single statement: function 1, no parameters, no list rows.
 -- Assumes nothing.
 use Rattle.std.specs.Prelude.{ℕ, zero, suc, ◌+◌, ◌*◌, ◌≡◌, refl, List, [], ◌∷◌, length}
-use Rattle.cells.specs.Zeros.{zeros}
+use Rattle.cells.specs.Zeros.{copies, zeros}
 use Rattle.tables.specs.Set.{size_of, move_of, instruction_set}
 use Rattle.flow.specs.Decode.{step_by, operands_at, word_at, flow_of, moved, target_of}
 use Rattle.flow.specs.Walk.{walk_by, marks_of}
@@ -65,5 +65,5 @@ Hold (e ∷ es) =
 
 -- every example's answer is as 01 has it
 pub examples_hold : Hold examples
-unfolding Hold examples zeros size_of move_of instruction_set step_by operands_at word_at flow_of moved target_of walk_by faulty rows_of first_of place_of entry_of body_of table_refused too_many scratch_short repeats repeated_of outside outside_of directory_of contents_of input_of stack_input flowing moving acting look_of put follow walk_from begun walk_of known_of fields_by violation_fields refusal_fields marks_of body_answer functions_answer stack_answer fields_of
+unfolding Hold examples copies size_of move_of instruction_set step_by operands_at word_at flow_of moved target_of walk_by faulty rows_of first_of place_of entry_of body_of table_refused too_many scratch_short repeats repeated_of outside outside_of directory_of contents_of input_of stack_input flowing moving acting look_of put follow walk_from begun walk_of known_of fields_by violation_fields refusal_fields marks_of body_answer functions_answer stack_answer fields_of
 examples_hold = (refl, (refl, (refl, (refl, (refl, (refl, (refl, (refl, (refl, (refl, (refl, (refl, tt))))))))))))

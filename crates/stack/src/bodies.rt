@@ -91,8 +91,8 @@ fn one(
         given,
         maximum,
     );
-    cells::clear_u8(&mut marks[..n]);
-    cells::clear_u32(&mut depths[..e]);
+    cells::clear(&mut marks[..n]);
+    cells::clear(&mut depths[..e]);
     walked
 }
 
@@ -123,8 +123,8 @@ pub(crate) fn all(
     while row < ids.len() {
         let body = cells::part(
             code,
-            cells::usize_at(offsets, row),
-            cells::usize_at(lengths, row),
+            cells::at(offsets, row),
+            cells::at(lengths, row),
         );
         let walked = one(
             marks,
@@ -140,13 +140,13 @@ pub(crate) fn all(
             ids,
             parameters,
             given,
-            cells::u16_at(maxima, row),
+            cells::at(maxima, row),
         );
         match walked {
             Walked::Accepted => row += 1,
             Walked::Violated(violation) => {
                 return Verdict::Violated {
-                    function: cells::u16_at(ids, row),
+                    function: cells::at(ids, row),
                     violation,
                 };
             }

@@ -54,8 +54,8 @@ fn checked(
     let mut given = [0u8; 128];
     effects::given_back(&mut given, &sizes, offsets, lengths, code);
     codes::note_for(queue_depths, list_ids, code.len());
-    cells::clear_u8(marks);
-    cells::clear_u32(depths);
+    cells::clear(marks);
+    cells::clear(depths);
     let verdict = bodies::all(
         marks,
         depths,
@@ -74,8 +74,8 @@ fn checked(
         code,
         &given,
     );
-    cells::clear_u16(queue);
-    cells::clear_u16(queue_depths);
+    cells::clear(queue);
+    cells::clear(queue_depths);
     verdict
 }
 

@@ -196,7 +196,7 @@ pub(crate) fn look(
         return exit_at(offset, 0, depth);
     }
     let op = body[offset];
-    let size = cells::u8_at(marks, offset);
+    let size = cells::at(marks, offset);
     let next = offset + wide8(size);
     if tables::plain_in(words, op) {
         return plain(

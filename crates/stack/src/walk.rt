@@ -45,7 +45,7 @@ fn meet(depths: &[u32], to: usize, out: u64) -> Meeting
     requires { out < 65536 }
     ensures { result ≡ meet_of depths.now to out }
 {
-    let held = wide32(cells::u32_at(depths, to));
+    let held = wide32(cells::at(depths, to));
     if held == 0 {
         return Meeting::New;
     }
@@ -183,14 +183,14 @@ fn wide16(x: u16) -> usize
 fn place_at(queue: &[u16], i: usize) -> usize
     ensures { result ≡ get_or queue.now i 0 }
 {
-    wide16(cells::u16_at(queue, i))
+    wide16(cells::at(queue, i))
 }
 
 // The depth on record at an offset that has one.
 fn depth_at(depths: &[u32], offset: usize) -> u64
     ensures { (result ≡ get_or depths.now offset 0 - 1) × (result < 4294967296) }
 {
-    let held = wide32(cells::u32_at(depths, offset));
+    let held = wide32(cells::at(depths, offset));
     if held == 0 {
         return 0;
     }

@@ -57,7 +57,7 @@ fn total(cells: &[u8], weights: &[u16], pool: u16, f: usize, s: State) -> Visit
     let Visited::Fine(best) = a else {
         return walked;
     };
-    let sum = plus(cells::u16_at(weights, f), best);
+    let sum = plus(cells::at(weights, f), best);
     let mut done = walked.state;
     if pool < sum {
         return Visit {
@@ -83,7 +83,7 @@ fn largest(cells: &[u8], weights: &[u16], pool: u16, f: usize, s: State) -> Visi
     let mut state = s;
     let mut cell: usize = 0;
     while cell < 128 {
-        let c = cells::u8_at(cells, f * 128 + cell);
+        let c = cells::at(cells, f * 128 + cell);
         if c == 0 {
             return Visit {
                 answer: Visited::Fine(best),

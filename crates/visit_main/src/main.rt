@@ -32,7 +32,7 @@ fn chain(cells: &mut [u8]) {
     let mut f: usize = 0;
     while f < 127 {
         let next = (f + 2) as u8;
-        cells::put_u8(cells, f * 128, next);
+        cells::put(cells, f * 128, next);
         f += 1;
     }
 }
@@ -54,7 +54,7 @@ fn full_row(cells: &mut [u8], f: usize)
     while cell < 128 {
         callee = later(f, callee);
         let c = (callee + 1) as u8;
-        cells::put_u8(cells, f * 128 + cell, c);
+        cells::put(cells, f * 128 + cell, c);
         cell += 1;
     }
 }
@@ -73,7 +73,7 @@ fn falling(ids: &mut [u16]) {
     let mut f: usize = 0;
     while f < 128 {
         let id = (200 - f) as u16;
-        cells::put_u16(ids, f, id);
+        cells::put(ids, f, id);
         f += 1;
     }
 }
@@ -116,7 +116,7 @@ fn chains(
 }
 
 fn rings(rt: &impl Print, cells: &mut [u8], weights: &[u16], first: &[u16]) -> io::Result<()> {
-    cells::put_u8(cells, 16256, 1);
+    cells::put(cells, 16256, 1);
     ask(
         rt,
         b"chain, the last calls the first",
@@ -125,7 +125,7 @@ fn rings(rt: &impl Print, cells: &mut [u8], weights: &[u16], first: &[u16]) -> i
         128,
         first,
     )?;
-    cells::put_u8(cells, 16256, 128);
+    cells::put(cells, 16256, 128);
     ask(
         rt,
         b"chain, the last calls itself",
@@ -187,7 +187,7 @@ fn widest(
 }
 
 fn heavy(rt: &impl Print, cells: &[u8], weights: &mut [u16], first: &[u16]) -> io::Result<()> {
-    cells::put_u16(weights, 64, 65535);
+    cells::put(weights, 64, 65535);
     ask(
         rt,
         b"widest, one of 65535, pool 65535",

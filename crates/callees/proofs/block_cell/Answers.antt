@@ -5,7 +5,7 @@ use Rattle.program.specs.Seat.{seat_of}
 use Rattle.callees.proofs.block_cell.Goals as goal
 
 pub returns-in-Row : goal.returns-in-Row
-returns-in-Row c = block_known (seat_of c.args.ids.now) c.args.callees.now _ _ c.first_row-place.ensures _ _ _ c.in-Row.is c.u16_at.ensures c.cell_of.ensures
+returns-in-Row c = block_known (seat_of c.args.ids.now) c.args.callees.now _ _ c.first_row-place.ensures _ _ _ c.in-Row.is c.at.ensures c.cell_of.ensures
 
 pub returns-in-Nowhere : goal.returns-in-Nowhere
 returns-in-Nowhere c = block_none (seat_of c.args.ids.now) c.args.callees.now _ _ c.first_row-place.ensures c.in-Nowhere.is

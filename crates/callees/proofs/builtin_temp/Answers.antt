@@ -3,11 +3,11 @@
 use Rattle.callees.proofs.Cases.{flag_borrows, flag_own, flag_none}
 use Rattle.callees.proofs.builtin_temp.Goals as goal
 
-pub returns-then-u16_at-eq1 : goal.returns-then-u16_at-eq1
-returns-then-u16_at-eq1 c = flag_borrows _ _ _ _ c.find_hinted-place.ensures _ _ c.in-Row.is c.u16_at.ensures c.if-u16_at-eq1.true
+pub returns-then-at-eq1 : goal.returns-then-at-eq1
+returns-then-at-eq1 c = flag_borrows _ _ _ _ c.find_hinted-place.ensures _ _ c.in-Row.is c.at.ensures c.if-at-eq1.true
 
-pub returns-else-u16_at-eq1 : goal.returns-else-u16_at-eq1
-returns-else-u16_at-eq1 c = flag_own _ _ _ _ c.find_hinted-place.ensures _ _ c.in-Row.is c.u16_at.ensures c.if-u16_at-eq1.false
+pub returns-else-at-eq1 : goal.returns-else-at-eq1
+returns-else-at-eq1 c = flag_own _ _ _ _ c.find_hinted-place.ensures _ _ c.in-Row.is c.at.ensures c.if-at-eq1.false
 
 pub returns-in-Nowhere : goal.returns-in-Nowhere
 returns-in-Nowhere c = flag_none _ _ _ _ c.find_hinted-place.ensures c.in-Nowhere.is

@@ -38,11 +38,11 @@ returns-then-flag-gt1 c = let l = c.loop-i in
     let a = c.args in
     sym
     (fault_if a.ids.now a.flags.now l.i
-    (record { inside = c.loop-i-test.true; picked = faulty_flag _ _ l.i (omega (arith, c.u16_at-flag.ensures)); earlier = l.invariant.sound }))
+    (record { inside = c.loop-i-test.true; picked = faulty_flag _ _ l.i (omega (arith, c.at-flag.ensures)); earlier = l.invariant.sound }))
 
 pub loop-i-preserved : goal.loop-i-preserved
 loop-i-preserved c = let l = c.loop-i in
-    next _ _ l.low l.i l.invariant c.loop-i-test.true c.if-id-low.false (omega (arith, c.u16_at-flag.ensures))
+    next _ _ l.low l.i l.invariant c.loop-i-test.true c.if-id-low.false (omega (arith, c.at-flag.ensures))
 
 pub returns : goal.returns
 returns c = let l = c.loop-i in

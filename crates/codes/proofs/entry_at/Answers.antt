@@ -3,4 +3,4 @@
 use Rattle.codes.proofs.entry_at.Goals as goal
 
 pub returns-in-Row : goal.returns-in-Row
-returns-in-Row c = cc (c.u16_at-in-Row.ensures, c.u16_at.ensures)
+returns-in-Row c = cc (c.at-in-Row.ensures, c.at.ensures)

@@ -30,7 +30,7 @@ loop-row-init c = record { within = search rules; same = refl; goes_on = refl }
 
 pub loop-row-preserved : goal.loop-row-preserved
 loop-row-preserved c = let l = c.loop-row in
-    noting-more _ _ l.row l.hints l.invariant c.loop-row-test.true c.put_u16.new.column c.hint_cell.result c.hint_of.result c.hint_cell.ensures c.hint_of.ensures c.put_u16.ensures
+    noting-more _ _ l.row l.hints l.invariant c.loop-row-test.true c.put.new.column c.hint_cell.result c.hint_of.result c.hint_cell.ensures c.hint_of.ensures c.put.ensures
 
 pub returns : goal.returns
 unfolding noted

@@ -9,7 +9,7 @@ use Rattle.effects.proofs.call_effect.Goals as goal
 
 pub returns-in-Row : goal.returns-in-Row
 unfolding call_by
-returns-in-Row c = ap Known.Moves (c.new.ensures ∙ ap (λ (n : ℕ). effect n 1) c.u16_at.ensures) ∙ sym (ap (on_place _ _ _) (sym c.function_row-place.ensures ∙ c.in-Row.is))
+returns-in-Row c = ap Known.Moves (c.new.ensures ∙ ap (λ (n : ℕ). effect n 1) c.at.ensures) ∙ sym (ap (on_place _ _ _) (sym c.function_row-place.ensures ∙ c.in-Row.is))
 
 pub returns-in-Nowhere : goal.returns-in-Nowhere
 unfolding call_by

@@ -13,8 +13,8 @@ loop-row-init c = filling_none _ _ _
 pub loop-row-preserved : goal.loop-row-preserved
 loop-row-preserved c = let l = c.loop-row in
     let a = c.args in
-    let v = c.gives_back-value.ensures ∙ ap (gives_back (size_in a.sizes.now) a.code.now (get_or a.offsets.now l.row 0)) c.usize_at.ensures in
-    filling_more _ (length a.offsets.now) _ l.row l.given c.put_u8.new.column l.invariant c.loop-row-test.true (c.put_u8.ensures ∙ ap (set l.given l.row) v)
+    let v = c.gives_back-value.ensures ∙ ap (gives_back (size_in a.sizes.now) a.code.now (get_or a.offsets.now l.row 0)) c.at.ensures in
+    filling_more _ (length a.offsets.now) _ l.row l.given c.put.new.column l.invariant c.loop-row-test.true (c.put.ensures ∙ ap (set l.given l.row) v)
 
 pub returns : goal.returns
 unfolding filled

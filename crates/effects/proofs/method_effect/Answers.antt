@@ -8,7 +8,7 @@ use Rattle.effects.proofs.method_effect.Goals as goal
 
 pub returns-in-Row : goal.returns-in-Row
 unfolding method_by
-returns-in-Row c = ap Known.Moves (c.new.ensures ∙ ap₂ effect c.u16_at.ensures (c.wide.ensures ∙ c.u8_at.ensures)) ∙ sym (ap (on_place _ _ _) (sym c.function_row-place.ensures ∙ c.in-Row.is))
+returns-in-Row c = ap Known.Moves (c.new.ensures ∙ ap₂ effect c.at.ensures (c.wide.ensures ∙ c.at.ensures)) ∙ sym (ap (on_place _ _ _) (sym c.function_row-place.ensures ∙ c.in-Row.is))
 
 pub returns-in-Nowhere : goal.returns-in-Nowhere
 unfolding method_by

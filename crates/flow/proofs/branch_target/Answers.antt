@@ -20,12 +20,12 @@ unfolding target_of
 returns-in-Before c = let e = sym c.move_by-spot.ensures ∙ c.in-Before.is in
     rw (e, c.in-Before.is)
 
-pub returns-then-u8_at-eq0 : goal.returns-then-u8_at-eq0
+pub returns-then-at-eq0 : goal.returns-then-at-eq0
 unfolding target_of
-returns-then-u8_at-eq0 c = let e = sym c.move_by-spot.ensures ∙ c.in-At.is in
-    rw e (simp (ne_eqb _ _ c.if-to-length.false, le-ltb _ _ c.if-length-to.false, eq-eqb _ _ (sym c.u8_at.ensures ∙ c.if-u8_at-eq0.true)))
+returns-then-at-eq0 c = let e = sym c.move_by-spot.ensures ∙ c.in-At.is in
+    rw e (simp (ne_eqb _ _ c.if-to-length.false, le-ltb _ _ c.if-length-to.false, eq-eqb _ _ (sym c.at.ensures ∙ c.if-at-eq0.true)))
 
-pub returns-else-u8_at-eq0 : goal.returns-else-u8_at-eq0
+pub returns-else-at-eq0 : goal.returns-else-at-eq0
 unfolding target_of
-returns-else-u8_at-eq0 c = let e = sym c.move_by-spot.ensures ∙ c.in-At.is in
-    rw e (simp (ne_eqb _ _ c.if-to-length.false, le-ltb _ _ c.if-length-to.false, ne_eqb _ _ (λ z. c.if-u8_at-eq0.false (c.u8_at.ensures ∙ z))))
+returns-else-at-eq0 c = let e = sym c.move_by-spot.ensures ∙ c.in-At.is in
+    rw e (simp (ne_eqb _ _ c.if-to-length.false, le-ltb _ _ c.if-length-to.false, ne_eqb _ _ (λ z. c.if-at-eq0.false (c.at.ensures ∙ z))))

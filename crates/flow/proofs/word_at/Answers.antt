@@ -17,4 +17,4 @@ returns-then-operands-i c = let s = c.args.operands.now in
 
 pub returns : goal.returns
 unfolding word_at
-returns c = c.word.ensures ∙ ap (λ (n : ℕ). get_or c.args.operands.now c.args.i 0 + n * 256) c.u8_at.ensures
+returns c = c.word.ensures ∙ ap (λ (n : ℕ). get_or c.args.operands.now c.args.i 0 + n * 256) c.at.ensures

@@ -16,13 +16,13 @@ largest-returns-then-c-eq0 t c =
     let a = c.args in
     let l = c.loop-cell in
     row_zero a.cells.now a.weights.now a.pool a.f a.s l.best l.state l.cell l.invariant
-    c.loop-cell-test.true c.u8_at-c.result c.u8_at-c.ensures c.if-c-eq0.true
+    c.loop-cell-test.true c.at-c.result c.at-c.ensures c.if-c-eq0.true
 
 pub largest-loop-cell-preserved-then-g-ge128 : goal.largest-loop-cell-preserved-then-g-ge128
 largest-loop-cell-preserved-then-g-ge128 t c =
     let a = c.args in
     let l = c.loop-cell in
-    let read = c.u8_at-c in
+    let read = c.at-c in
     row_unknown a.cells.now a.weights.now a.pool a.f a.s l.best l.state l.cell l.invariant
     c.loop-cell-test.true read.result read.ensures c.if-c-eq0.false (read.result - 1) refl c.if-g-ge128.true
 
@@ -30,7 +30,7 @@ pub largest-returns-then-colour-eq1 : goal.largest-returns-then-colour-eq1
 largest-returns-then-colour-eq1 t c =
     let a = c.args in
     let l = c.loop-cell in
-    let read = c.u8_at-c in
+    let read = c.at-c in
     row_open a.cells.now a.weights.now a.pool a.f a.s l.best l.state l.cell l.invariant
     c.loop-cell-test.true read.result read.ensures c.if-c-eq0.false (read.result - 1) refl c.if-g-ge128.false c.if-colour-eq1.true
 
@@ -38,7 +38,7 @@ pub largest-returns-in_default : goal.largest-returns-in_default
 largest-returns-in_default t c =
     let a = c.args in
     let l = c.loop-cell in
-    let read = c.u8_at-c in
+    let read = c.at-c in
     let visited = c.total-v in
     row_failed a.cells.now a.weights.now a.pool a.f a.s l.best l.state l.cell l.invariant
     c.loop-cell-test.true read.result read.ensures c.if-c-eq0.false (read.result - 1) refl c.if-g-ge128.false
@@ -48,7 +48,7 @@ pub largest-loop-cell-preserved-then-colour-eq0 : goal.largest-loop-cell-preserv
 largest-loop-cell-preserved-then-colour-eq0 t c =
     let a = c.args in
     let l = c.loop-cell in
-    let read = c.u8_at-c in
+    let read = c.at-c in
     let visited = c.total-v in
     let most = c.larger-best in
     row_fine a.cells.now a.weights.now a.pool a.f a.s l.best l.state l.cell l.invariant
@@ -59,7 +59,7 @@ pub largest-loop-cell-preserved : goal.largest-loop-cell-preserved
 largest-loop-cell-preserved t c =
     let a = c.args in
     let l = c.loop-cell in
-    let read = c.u8_at-c in
+    let read = c.at-c in
     let most = c.larger-best-in-loop-cell in
     row_closed a.cells.now a.weights.now a.pool a.f a.s l.best l.state l.cell l.invariant
     c.loop-cell-test.true read.result read.ensures c.if-c-eq0.false (read.result - 1) refl c.if-g-ge128.false
@@ -94,7 +94,7 @@ total-returns-then-pool-sum t c =
     let p = c.requires in
     let walked = c.largest-walked in
     closes_above (graph_in a.cells.now a.weights.now) a.pool a.f a.s p.0 p.1 p.2 walked.result walked.ensures _
-    c.u16_at.result c.plus-sum.result c.in-Fine.is c.u16_at.ensures c.plus-sum.ensures c.if-pool-sum.true
+    c.at.result c.plus-sum.result c.in-Fine.is c.at.ensures c.plus-sum.ensures c.if-pool-sum.true
 
 pub total-returns : goal.total-returns
 total-returns t c =
@@ -102,4 +102,4 @@ total-returns t c =
     let p = c.requires in
     let walked = c.largest-walked in
     closes_below (graph_in a.cells.now a.weights.now) a.pool a.f a.s p.0 p.1 p.2 walked.result walked.ensures _
-    c.u16_at.result c.plus-sum.result c.in-Fine.is c.u16_at.ensures c.plus-sum.ensures c.if-pool-sum.false
+    c.at.result c.plus-sum.result c.in-Fine.is c.at.ensures c.plus-sum.ensures c.if-pool-sum.false

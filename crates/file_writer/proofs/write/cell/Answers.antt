@@ -5,20 +5,20 @@ use Rattle.file_writer.proofs.write.cell.Goals as goal
 
 pub returns-then-index-eq0 : goal.returns-then-index-eq0
 unfolding cell_of
-returns-then-index-eq0 c = rw (eq-eqb _ _ c.if-index-eq0.true) c.u16_at.ensures
+returns-then-index-eq0 c = rw (eq-eqb _ _ c.if-index-eq0.true) c.at.ensures
 
 pub returns-then-index-eq1 : goal.returns-then-index-eq1
 unfolding cell_of
-returns-then-index-eq1 c = rw (ne_eqb _ _ c.if-index-eq0.false, eq-eqb _ _ c.if-index-eq1.true) c.u16_at-then-index-eq1.ensures
+returns-then-index-eq1 c = rw (ne_eqb _ _ c.if-index-eq0.false, eq-eqb _ _ c.if-index-eq1.true) c.at-then-index-eq1.ensures
 
 pub returns-then-index-eq2 : goal.returns-then-index-eq2
 unfolding cell_of
-returns-then-index-eq2 c = rw (ne_eqb _ _ c.if-index-eq0.false, ne_eqb _ _ c.if-index-eq1.false, eq-eqb _ _ c.if-index-eq2.true) c.u16_at-then-index-eq2.ensures
+returns-then-index-eq2 c = rw (ne_eqb _ _ c.if-index-eq0.false, ne_eqb _ _ c.if-index-eq1.false, eq-eqb _ _ c.if-index-eq2.true) c.at-then-index-eq2.ensures
 
 pub returns-then-index-eq3 : goal.returns-then-index-eq3
 unfolding cell_of
-returns-then-index-eq3 c = rw (ne_eqb _ _ c.if-index-eq0.false, ne_eqb _ _ c.if-index-eq1.false, ne_eqb _ _ c.if-index-eq2.false, eq-eqb _ _ c.if-index-eq3.true, ← c.usize_at.ensures) c.narrow.ensures
+returns-then-index-eq3 c = rw (ne_eqb _ _ c.if-index-eq0.false, ne_eqb _ _ c.if-index-eq1.false, ne_eqb _ _ c.if-index-eq2.false, eq-eqb _ _ c.if-index-eq3.true, ← c.at.ensures) c.narrow.ensures
 
 pub returns : goal.returns
 unfolding cell_of
-returns c = rw (ne_eqb _ _ c.if-index-eq0.false, ne_eqb _ _ c.if-index-eq1.false, ne_eqb _ _ c.if-index-eq2.false, ne_eqb _ _ c.if-index-eq3.false, ← c.usize_at-2.ensures) c.narrow-2.ensures
+returns c = rw (ne_eqb _ _ c.if-index-eq0.false, ne_eqb _ _ c.if-index-eq1.false, ne_eqb _ _ c.if-index-eq2.false, ne_eqb _ _ c.if-index-eq3.false, ← c.at-2.ensures) c.narrow-2.ensures

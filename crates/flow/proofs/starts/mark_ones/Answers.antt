@@ -13,7 +13,7 @@ returns-then-size_in-ne1 c = c.loop-at.invariant
 pub loop-at-preserved : goal.loop-at-preserved
 loop-at-preserved c = let l = c.loop-at in
     let e = sym c.size_in.ensures ∙ c.if-size_in-ne1.false in
-    marked_one _ c.args.body.now _ _ l.at l.marks c.put_u8.new.column l.invariant c.loop-at-test.true e c.put_u8.ensures
+    marked_one _ c.args.body.now _ _ l.at l.marks c.put.new.column l.invariant c.loop-at-test.true e c.put.ensures
 
 pub returns : goal.returns
 returns c = c.loop-at.invariant

@@ -25,7 +25,7 @@ loop-at-preserved c = let l = c.loop-at in
     let s = c.args.body.now in
     let e = sym c.decode_step-step.ensures ∙ c.in-Instruction.is in
     let m = marked_then _ s _ _ l.at l.marks o.result o.new.marks l.invariant o.ensures in
-    rw c.wide.ensures (marked_on _ s _ _ o.result o.new.marks c.put_u8.new.column _ _ m e c.put_u8.ensures)
+    rw c.wide.ensures (marked_on _ s _ _ o.result o.new.marks c.put.new.column _ _ m e c.put.ensures)
 
 pub returns-in-Unknown : goal.returns-in-Unknown
 returns-in-Unknown c = let l = c.loop-at in

@@ -3,8 +3,8 @@
 use Rattle.pool.proofs.Raising.{on_kept, on_new}
 use Rattle.pool.proofs.walk.straight_on.Goals as goal
 
-pub returns-then-sum-u32_at : goal.returns-then-sum-u32_at
-returns-then-sum-u32_at c = on_kept _ _ _ _ _ _ c.requires.ready _ c.u32_at.ensures c.if-sum-u32_at.true
+pub returns-then-sum-at : goal.returns-then-sum-at
+returns-then-sum-at c = on_kept _ _ _ _ _ _ c.requires.ready _ c.at.ensures c.if-sum-at.true
 
 pub returns : goal.returns
-returns c = on_new _ _ _ _ _ _ c.requires.ready _ c.u32_at.ensures c.if-sum-u32_at.false c.requires.to_in_bounds.0
+returns c = on_new _ _ _ _ _ _ c.requires.ready _ c.at.ensures c.if-sum-at.false c.requires.to_in_bounds.0

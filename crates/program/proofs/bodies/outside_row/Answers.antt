@@ -25,15 +25,15 @@ returns-then-offset-code c = let l = c.loop-i in
       earlier = l.invariant.1;
     }))
 
-pub returns-then-usize_at-left : goal.returns-then-usize_at-left
+pub returns-then-at-left : goal.returns-then-at-left
 unfolding outside_of
-returns-then-usize_at-left c = let l = c.loop-i in
+returns-then-at-left c = let l = c.loop-i in
     let a = c.args in
     sym
     (row_if_lem _ _ _
     (record {
       inside = c.loop-i-test.true;
-      picked = length_outside a.offsets.now a.lengths.now a.code l.i (omega (arith, c.usize_at.ensures, c.if-usize_at-left.true));
+      picked = length_outside a.offsets.now a.lengths.now a.code l.i (omega (arith, c.at.ensures, c.if-at-left.true));
       earlier = l.invariant.1;
     }))
 
@@ -42,7 +42,7 @@ loop-i-preserved c = let l = c.loop-i in
     let a = c.args in (
       search rules,
       below_more _ _ l.invariant.1
-          (inside_row a.offsets.now a.lengths.now a.code l.i c.if-offset-code.false (omega (arith, c.usize_at.ensures, c.if-usize_at-left.false))),
+          (inside_row a.offsets.now a.lengths.now a.code l.i c.if-offset-code.false (omega (arith, c.at.ensures, c.if-at-left.false))),
     )
 
 pub returns : goal.returns

@@ -12,7 +12,7 @@ loop-row-init c = going_first _ _ _ _ _ _ c.requires.cleared.0
 pub one-walked-requires : goal.one-walked-requires
 one-walked-requires c = let l = c.loop-row in
     let g = l.invariant in
-    record { cleared = (going_cleared _ _ _ _ _ _ l.marks l.depths l.queue l.row g, roomy_part l.marks l.depths l.queue c.args.code.now c.usize_at.result c.usize_at-in-loop-row.result _ c.part-body.ensures (going_room _ _ _ _ _ _ l.marks l.depths l.queue l.row g _ c.requires.cleared.1)); goes_on = c.requires.goes_on }
+    record { cleared = (going_cleared _ _ _ _ _ _ l.marks l.depths l.queue l.row g, roomy_part l.marks l.depths l.queue c.args.code.now c.at.result c.at-in-loop-row.result _ c.part-body.ensures (going_room _ _ _ _ _ _ l.marks l.depths l.queue l.row g _ c.requires.cleared.1)); goes_on = c.requires.goes_on }
 
 pub overflow_add-row : goal.overflow_add-row
 overflow_add-row c = omega (arith, c.loop-row-test.true, c.well_formed)
@@ -23,14 +23,14 @@ loop-row-smaller c = omega (arith, c.loop-row-test.true)
 pub loop-row-preserved : goal.loop-row-preserved
 loop-row-preserved c = let l = c.loop-row in
     let o = c.one-walked in
-    let e = row_is _ _ _ l.row _ _ _ _ _ c.usize_at.ensures c.usize_at-in-loop-row.ensures c.u16_at.ensures c.part-body.ensures o.ensures.0 in
+    let e = row_is _ _ _ l.row _ _ _ _ _ c.at.ensures c.at-in-loop-row.ensures c.at.ensures c.part-body.ensures o.ensures.0 in
     going_more _ _ _ _ _ _ l.marks l.depths l.queue l.row l.invariant c.loop-row-test.true o.new.marks o.new.depths o.new.queue o.ensures.1.0 o.ensures.1.1 o.auto.queue (sym c.in-Accepted.is ∙ e)
 
 pub returns-in-Violated : goal.returns-in-Violated
 returns-in-Violated c = let l = c.loop-row in
     let o = c.one-walked in
-    let e = row_is _ _ _ l.row _ _ _ _ _ c.usize_at.ensures c.usize_at-in-loop-row.ensures c.u16_at.ensures c.part-body.ensures o.ensures.0 in (
-      going_stop _ _ _ _ _ _ l.marks l.depths l.queue l.row l.invariant c.loop-row-test.true _ _ c.u16_at-in-Violated.ensures (sym c.in-Violated.is ∙ e),
+    let e = row_is _ _ _ l.row _ _ _ _ _ c.at.ensures c.at-in-loop-row.ensures c.at.ensures c.part-body.ensures o.ensures.0 in (
+      going_stop _ _ _ _ _ _ l.marks l.depths l.queue l.row l.invariant c.loop-row-test.true _ _ c.at-in-Violated.ensures (sym c.in-Violated.is ∙ e),
       (
         o.ensures.1.0 ∙ ap zeros (length_zeros _ _ l.invariant.marks_zero),
         o.ensures.1.1 ∙ ap zeros (length_zeros _ _ l.invariant.depths_zero),

@@ -17,26 +17,26 @@ pub run-walked-requires : goal.run-walked-requires
 run-walked-requires c = let p = c.requires.cleared in
     record { marks_value = (take_zeros _ _ p.0.marks_zero _ p.1.marks_room, (take_zeros _ _ p.0.depths_zero _ p.1.depths_room, (p.1.queue_room, p.1.small))); goes_on = c.requires.goes_on }
 
-pub slice_bounds-clear_u8-end : goal.slice_bounds-clear_u8-end
-slice_bounds-clear_u8-end c = let a = c.args in
+pub slice_bounds-clear-end : goal.slice_bounds-clear-end
+slice_bounds-clear-end c = let a = c.args in
     subst⁻¹ (λ (m : ℕ). length a.body.now ≤ m) (length_front a.marks.now c.run-walked.new.marks (length a.body.now) c.run-walked.auto.marks) c.requires.cleared.1.marks_room
 
-pub slice_bounds-clear_u8-end-2 : goal.slice_bounds-clear_u8-end-2
-slice_bounds-clear_u8-end-2 c = front _ _ c.run-walked.new.marks c.requires.cleared.1.marks_room c.run-walked.auto.marks
+pub slice_bounds-clear-end-2 : goal.slice_bounds-clear-end-2
+slice_bounds-clear-end-2 c = front _ _ c.run-walked.new.marks c.requires.cleared.1.marks_room c.run-walked.auto.marks
 
-pub slice_bounds-clear_u32-end : goal.slice_bounds-clear_u32-end
-slice_bounds-clear_u32-end c = let a = c.args in
+pub slice_bounds-clear-end : goal.slice_bounds-clear-end
+slice_bounds-clear-end c = let a = c.args in
     subst⁻¹ (λ (m : ℕ). length a.body.now + 1 ≤ m) (length_front a.depths.now c.run-walked.new.depths (length a.body.now + 1) c.run-walked.auto.depths) c.requires.cleared.1.depths_room
 
-pub slice_bounds-clear_u32-end-2 : goal.slice_bounds-clear_u32-end-2
-slice_bounds-clear_u32-end-2 c = front _ _ c.run-walked.new.depths c.requires.cleared.1.depths_room c.run-walked.auto.depths
+pub slice_bounds-clear-end-2 : goal.slice_bounds-clear-end-2
+slice_bounds-clear-end-2 c = front _ _ c.run-walked.new.depths c.requires.cleared.1.depths_room c.run-walked.auto.depths
 
 pub returns : goal.returns
 returns c = let p = c.requires.cleared in
     let r = c.run-walked in (
       r.ensures,
       (
-        patched _ _ r.new.marks p.1.marks_room r.auto.marks _ p.0.marks_zero c.clear_u8.ensures,
-        patched _ _ r.new.depths p.1.depths_room r.auto.depths _ p.0.depths_zero c.clear_u32.ensures,
+        patched _ _ r.new.marks p.1.marks_room r.auto.marks _ p.0.marks_zero c.clear.ensures,
+        patched _ _ r.new.depths p.1.depths_room r.auto.depths _ p.0.depths_zero c.clear.ensures,
       ),
     )

@@ -21,25 +21,25 @@ overflow_add-next c = omega (arith, c.wide8.ensures, c.if-body-offset.false, c.r
 pub returns-then-plain_in : goal.returns-then-plain_in
 returns-then-plain_in c = let a = c.args in
     let w = a.words.now in
-    let n : c.wide8.result ≡ c.u8_at-size.result = c.wide8.ensures.0 in
+    let n : c.wide8.result ≡ c.at-size.result = c.wide8.ensures.0 in
     let p = sym c.plain_in.ensures ∙ c.if-plain_in.true in
-    let k = known_fixed _ _ _ _ _ (operands_at a.body.now a.offset c.u8_at-size.result) _ (plain_fixed w _ p) ∙ ap Known.Moves (sym c.effect_in.ensures) in
-    c.plain.ensures ∙ sym (look_next _ _ a.body.now _ _ _ _ c.u8_at-size.result _ _ c.if-body-offset.false refl c.u8_at-size.ensures (ap (λ (m : ℕ). a.offset + m) n) refl _ k (flow_next _ _ (c.requires.goes_on _ p)))
+    let k = known_fixed _ _ _ _ _ (operands_at a.body.now a.offset c.at-size.result) _ (plain_fixed w _ p) ∙ ap Known.Moves (sym c.effect_in.ensures) in
+    c.plain.ensures ∙ sym (look_next _ _ a.body.now _ _ _ _ c.at-size.result _ _ c.if-body-offset.false refl c.at-size.ensures (ap (λ (m : ℕ). a.offset + m) n) refl _ k (flow_next _ _ (c.requires.goes_on _ p)))
 
 pub turning-requires : goal.turning-requires
 turning-requires c = c.requires.body_len_bound.1
 
 pub returns-in-Moves : goal.returns-in-Moves
 returns-in-Moves c = let a = c.args in
-    let n : c.wide8.result ≡ c.u8_at-size.result = c.wide8.ensures.0 in
-    c.turning.ensures ∙ sym (look_is _ _ a.body.now _ _ _ _ c.u8_at-size.result _ _ c.if-body-offset.false refl c.u8_at-size.ensures (ap (λ (m : ℕ). a.offset + m) n) c.operands_of-operands.ensures _ (sym c.effect_of-known.ensures ∙ c.in-Moves.is))
+    let n : c.wide8.result ≡ c.at-size.result = c.wide8.ensures.0 in
+    c.turning.ensures ∙ sym (look_is _ _ a.body.now _ _ _ _ c.at-size.result _ _ c.if-body-offset.false refl c.at-size.ensures (ap (λ (m : ℕ). a.offset + m) n) c.operands_of-operands.ensures _ (sym c.effect_of-known.ensures ∙ c.in-Moves.is))
 
 pub returns-in-UnknownBuiltin : goal.returns-in-UnknownBuiltin
 returns-in-UnknownBuiltin c = let a = c.args in
-    let n : c.wide8.result ≡ c.u8_at-size.result = c.wide8.ensures.0 in
-    sym (look_is _ _ a.body.now _ _ _ _ c.u8_at-size.result _ _ c.if-body-offset.false refl c.u8_at-size.ensures (ap (λ (m : ℕ). a.offset + m) n) c.operands_of-operands.ensures _ (sym c.effect_of-known.ensures ∙ c.in-UnknownBuiltin.is))
+    let n : c.wide8.result ≡ c.at-size.result = c.wide8.ensures.0 in
+    sym (look_is _ _ a.body.now _ _ _ _ c.at-size.result _ _ c.if-body-offset.false refl c.at-size.ensures (ap (λ (m : ℕ). a.offset + m) n) c.operands_of-operands.ensures _ (sym c.effect_of-known.ensures ∙ c.in-UnknownBuiltin.is))
 
 pub returns-in-UnknownCallee : goal.returns-in-UnknownCallee
 returns-in-UnknownCallee c = let a = c.args in
-    let n : c.wide8.result ≡ c.u8_at-size.result = c.wide8.ensures.0 in
-    sym (look_is _ _ a.body.now _ _ _ _ c.u8_at-size.result _ _ c.if-body-offset.false refl c.u8_at-size.ensures (ap (λ (m : ℕ). a.offset + m) n) c.operands_of-operands.ensures _ (sym c.effect_of-known.ensures ∙ c.in-UnknownCallee.is))
+    let n : c.wide8.result ≡ c.at-size.result = c.wide8.ensures.0 in
+    sym (look_is _ _ a.body.now _ _ _ _ c.at-size.result _ _ c.if-body-offset.false refl c.at-size.ensures (ap (λ (m : ℕ). a.offset + m) n) c.operands_of-operands.ensures _ (sym c.effect_of-known.ensures ∙ c.in-UnknownCallee.is))
