@@ -2,8 +2,7 @@
 -- Assumes nothing.
 use Rattle.std.specs.Prelude.{ℕ, ◌-◌, ◌%◌, cond, eqb}
 use Rattle.flow.specs.declared.Spot.{Spot}
-use Rattle.program.specs.declared.Input.{Input}
-use Rattle.program.specs.Refusals.{input_number, input_place}
+use Rattle.program.specs.Refusals.{input_number, input_place, Input}
 use Rattle.rules.specs.declared.Violation.{Violation}
 use Rattle.answers.specs.declared.Fields.{Fields}
 

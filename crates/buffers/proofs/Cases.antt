@@ -2,6 +2,7 @@
 -- place: a sum is at most one more than what was held, and successors are within the body or at its end, with a sum within the pool, where each mark
 -- fits the body. By the cases of the rules in their order; a legal target is within the body or at its end.
 -- Assumes nothing.
+use Rattle.std.specs.Prelude.{Ok, Err}
 use mathlib.Core.Path.{◌≡◌, refl}
 use mathlib.Core.Bool.{Bool, true, false, cond}
 use mathlib.Core.List.{List}
@@ -16,9 +17,7 @@ use Rattle.tables.specs.declared.TempEffect.TheVariants.{Keeps, Borrows, GivesBa
 use Rattle.flow.specs.declared.Spot.{Spot}
 use Rattle.flow.specs.declared.Flow.{Flow}
 use Rattle.flow.specs.declared.Flow.TheVariants.{Next, Jump, Branch, Return}
-use Rattle.flow.specs.declared.Target.{Target}
-use Rattle.flow.specs.declared.Target.TheVariants.{Legal, Illegal}
-use Rattle.flow.specs.Decode.{operands_at, flow_of, moved, target_of}
+use Rattle.flow.specs.Decode.{operands_at, flow_of, moved, target_of, Target}
 use Rattle.flow.proofs.Next.{legal}
 use Rattle.buffers.specs.declared.Way.{Way}
 use Rattle.buffers.specs.declared.Way.TheVariants.{Ends, Astray, Goes, Forks}
@@ -46,19 +45,19 @@ module _ (marks : List ℕ) (end next : ℕ) where
   unfolding flowing
   flowing_next = refl
 
-  pub jump_legal : (word to : ℕ) → target_of marks end (moved next word) ≡ Legal to → flowing marks end next (Jump word) ≡ Goes to
+  pub jump_legal : (word to : ℕ) → target_of marks end (moved next word) ≡ Ok to → flowing marks end next (Jump word) ≡ Goes to
   unfolding flowing
   jump_legal word to e = rw e
 
-  pub jump_illegal : (word : ℕ) (spot : Spot) → target_of marks end (moved next word) ≡ Illegal spot → flowing marks end next (Jump word) ≡ Astray
+  pub jump_illegal : (word : ℕ) (spot : Spot) → target_of marks end (moved next word) ≡ Err spot → flowing marks end next (Jump word) ≡ Astray
   unfolding flowing
   jump_illegal word spot e = rw e
 
-  pub branch_legal : (word to : ℕ) → target_of marks end (moved next word) ≡ Legal to → flowing marks end next (Branch word) ≡ Forks to next
+  pub branch_legal : (word to : ℕ) → target_of marks end (moved next word) ≡ Ok to → flowing marks end next (Branch word) ≡ Forks to next
   unfolding flowing
   branch_legal word to e = rw e
 
-  pub branch_illegal : (word : ℕ) (spot : Spot) → target_of marks end (moved next word) ≡ Illegal spot → flowing marks end next (Branch word) ≡ Astray
+  pub branch_illegal : (word : ℕ) (spot : Spot) → target_of marks end (moved next word) ≡ Err spot → flowing marks end next (Branch word) ≡ Astray
   unfolding flowing
   branch_illegal word spot e = rw e
 
@@ -112,9 +111,9 @@ either : (n x sum : ℕ) (b : Bool) (way : Way) → (b ≡ false → Leads n x s
 either n x sum true way h = tt
 either n x sum false way h = h refl
 
-target_bounded : (n x sum : ℕ) (go : ℕ → Way) (target : Target) → ((to : ℕ) → target ≡ Legal to → Leads n x sum (go to)) → Leads n x sum (on_target go target)
-target_bounded n x sum go (Legal to) h = h to refl
-target_bounded n x sum go (Illegal spot) h = tt
+target_bounded : (n x sum : ℕ) (go : ℕ → Way) (target : Target) → ((to : ℕ) → target ≡ Ok to → Leads n x sum (go to)) → Leads n x sum (on_target go target)
+target_bounded n x sum go (Ok to) h = h to refl
+target_bounded n x sum go (Err spot) h = tt
 
 flowing_bounded : (marks : List ℕ) (end next x sum : ℕ) (flow : Flow) → next ≤ end → sum ≤ x → Leads (end + 1) x sum (flowing marks end next flow)
 unfolding flowing

@@ -1,6 +1,7 @@
 -- Where a walk of a weight within the pool ended, every branch on a path has a legal target: with an illegal one its way would be astray, since the
 -- sum is within the pool, and no path is (Paths.antt).
 -- Assumes nothing.
+use Rattle.std.specs.Prelude.{Ok, Err}
 use mathlib.Core.Path.{◌≡◌, refl, sym, ap, ◌∙◌}
 use mathlib.Core.List.{List}
 use mathlib.Core.Logic.{◌⊎◌, inl, inr}
@@ -9,9 +10,7 @@ use native.Mathlib.Omega.{arith}
 use lib.ListN.{length, get_or}
 use Rattle.flow.specs.declared.Flow.{Flow}
 use Rattle.flow.specs.declared.Flow.TheVariants.{Jump, Branch}
-use Rattle.flow.specs.declared.Target.{Target}
-use Rattle.flow.specs.declared.Target.TheVariants.{Legal, Illegal}
-use Rattle.flow.specs.Decode.{operands_at, flow_of, moved, target_of}
+use Rattle.flow.specs.Decode.{operands_at, flow_of, moved, target_of, Target}
 use Rattle.buffers.specs.declared.Way.TheVariants.{Astray}
 use Rattle.buffers.specs.declared.Tread.{Tread}
 use Rattle.buffers.specs.Tread.{Temps, Opens, sum_past, flowing, bounded, tread_of}
@@ -43,7 +42,7 @@ module _ (temps : Temps) (opens : Opens) (marks body : List ℕ) (pool : ℕ) wh
   module _ (numbers : List ℕ) (u : Usage) (dominates : Dominates (tread_of temps opens marks body pool) numbers u) (light : u.weight ≤ pool) where
     pub branches_legal : (offset held : ℕ) → Comes (tread_of temps opens marks body pool) offset held → offset < length body → (word : ℕ)
         → (flow_of (get_or body offset 0) (operands_at body offset (get_or marks offset 0)) ≡ Jump word) ⊎ (flow_of (get_or body offset 0) (operands_at body offset (get_or marks offset 0)) ≡ Branch word)
-        → (to : ℕ) × (target_of marks (length body) (moved (offset + get_or marks offset 0) word) ≡ Legal to)
+        → (to : ℕ) × (target_of marks (length body) (moved (offset + get_or marks offset 0) word) ≡ Ok to)
     branches_legal offset held c within word f = by (target_of marks (length body) (moved (offset + get_or marks offset 0) word)) refl f
       where
         flow : Flow
@@ -56,7 +55,7 @@ module _ (temps : Temps) (opens : Opens) (marks body : List ℕ) (pool : ℕ) wh
             (way_is offset held within (omega arith) ∙ e)
 
         by : (t : Target) → target_of marks (length body) (moved (offset + get_or marks offset 0) word) ≡ t → (flow ≡ Jump word) ⊎ (flow ≡ Branch word)
-            → (to : ℕ) × (target_of marks (length body) (moved (offset + get_or marks offset 0) word) ≡ Legal to)
-        by (Legal to) e g = (to, e)
-        by (Illegal spot) e (inl g) = absurd (not_astray (rw g (jump_illegal marks (length body) (offset + get_or marks offset 0) word spot e)))
-        by (Illegal spot) e (inr g) = absurd (not_astray (rw g (branch_illegal marks (length body) (offset + get_or marks offset 0) word spot e)))
+            → (to : ℕ) × (target_of marks (length body) (moved (offset + get_or marks offset 0) word) ≡ Ok to)
+        by (Ok to) e g = (to, e)
+        by (Err spot) e (inl g) = absurd (not_astray (rw g (jump_illegal marks (length body) (offset + get_or marks offset 0) word spot e)))
+        by (Err spot) e (inr g) = absurd (not_astray (rw g (branch_illegal marks (length body) (offset + get_or marks offset 0) word spot e)))

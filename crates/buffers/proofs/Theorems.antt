@@ -17,6 +17,7 @@
 --     undecodable_strays     22 is answered only if a path comes to an illegal target
 --     walked_straight        and no path does, where a walk of a weight within the pool ended:
 --     branches_legal         then every branch on a path has a legal target
+use Rattle.std.specs.Prelude.{Ok}
 use mathlib.Core.Path.{◌≡◌}
 use mathlib.Core.List.{List}
 use mathlib.Core.Logic.{◌⊎◌, inl, inr, ◌↔◌}
@@ -24,7 +25,6 @@ use Prim.Native.Nat.{ℕ, ◌+◌, ◌≤◌, ◌<◌}
 use native.Mathlib.Omega.{arith}
 use lib.ListN.{length, get_or}
 use Rattle.flow.specs.declared.Flow.TheVariants.{Jump, Branch}
-use Rattle.flow.specs.declared.Target.TheVariants.{Legal}
 use Rattle.flow.specs.Decode.{operands_at, flow_of, moved, target_of}
 use Rattle.buffers.specs.declared.Way.TheVariants.{Astray}
 use Rattle.buffers.specs.declared.Tread.{Tread}
@@ -123,5 +123,5 @@ module _ (temps : Temps) (opens : Opens) (marks body : List ℕ) (pool : ℕ) wh
 
         pub branches_legal : (offset held : ℕ) → Comes ruled offset held → offset < length body → (word : ℕ)
             → (flow_of (get_or body offset 0) (operands_at body offset (get_or marks offset 0)) ≡ Jump word) ⊎ (flow_of (get_or body offset 0) (operands_at body offset (get_or marks offset 0)) ≡ Branch word)
-            → (to : ℕ) × (target_of marks (length body) (moved (offset + get_or marks offset 0) word) ≡ Legal to)
+            → (to : ℕ) × (target_of marks (length body) (moved (offset + get_or marks offset 0) word) ≡ Ok to)
         branches_legal = Legality.branches_legal temps opens marks body pool numbers u dominates light

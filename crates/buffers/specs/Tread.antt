@@ -2,14 +2,12 @@
 -- `opens` the cell of the function that it opens, both from its opcode and operands; `marks` hold an instruction's size at each start and 0 elsewhere.
 -- Nothing else repeats these rules.
 -- Assumes nothing.
-use Rattle.std.specs.Prelude.{ℕ, ◌+◌, ◌-◌, ◌≤◌, ◌<◌, cond, List, ltb, length, get_or}
+use Rattle.std.specs.Prelude.{ℕ, ◌+◌, ◌-◌, ◌≤◌, ◌<◌, cond, List, ltb, length, get_or, Ok, Err}
 use Rattle.tables.specs.declared.TempEffect.{TempEffect}
 use Rattle.tables.specs.declared.TempEffect.TheVariants.{Keeps, Borrows, GivesBack}
 use Rattle.flow.specs.declared.Flow.{Flow}
 use Rattle.flow.specs.declared.Flow.TheVariants.{Next, Jump, Branch, Return}
-use Rattle.flow.specs.declared.Target.{Target}
-use Rattle.flow.specs.declared.Target.TheVariants.{Legal, Illegal}
-use Rattle.flow.specs.Decode.{operands_at, flow_of, moved, target_of}
+use Rattle.flow.specs.Decode.{operands_at, flow_of, moved, target_of, Target}
 use Rattle.buffers.specs.declared.Way.{Way}
 use Rattle.buffers.specs.declared.Way.TheVariants.{Ends, Astray, Goes, Forks}
 use Rattle.buffers.specs.declared.Tread.{Tread}
@@ -29,8 +27,8 @@ sum_past GivesBack held = held - 1
 
 -- "Undecodable: .. a branch reached has an illegal target"
 abbrev pub on_target : (ℕ → Way) → Target → Way
-on_target go (Legal to) = go to
-on_target go (Illegal spot) = Astray
+on_target go (Ok to) = go to
+on_target go (Err spot) = Astray
 
 -- the successors, branch target before next instruction
 unfoldable pub flowing : List ℕ → ℕ → ℕ → Flow → Way

@@ -1,5 +1,7 @@
 -- What an instruction borrows and opens, a law for each case, with its tests as hypotheses: the code is proved by these alone.
 -- Assumes nothing.
+use Rattle.std.specs.Prelude.{Some, None}
+use Rattle.codes.specs.First.{Place}
 use Prim.Native.Nat.{ℕ, ◌+◌, ◌≤◌, ◌<◌}
 use mathlib.Core.Path.{◌≡◌, refl, ◌∙◌, ap, ap₂, sym}
 use mathlib.Core.Bool.{Bool, cond}
@@ -12,36 +14,34 @@ use Rattle.tables.specs.declared.Effect.{Effect}
 use Rattle.tables.specs.declared.TempEffect.{TempEffect}
 use Rattle.tables.specs.declared.TempEffect.TheVariants.{Borrows}
 use Rattle.flow.specs.Decode.{word_at}
-use Rattle.codes.specs.declared.Place.{Place}
-use Rattle.codes.specs.declared.Place.TheVariants.{Row, Nowhere}
 use Rattle.codes.specs.Lookup.{place_of}
 use Rattle.callees.specs.Callees.{on_flag, temp_by, temps_by, cell_at, block_by, open_by, opens_by}
 
 module _ (flags : List ℕ) (own : TempEffect) (place found : Place) (is : found ≡ place) where
-  pub flag_borrows : (k flag : ℕ) → found ≡ Row k → flag ≡ get_or flags k 0 → flag ≡ 1 → Borrows ≡ on_flag flags own place
+  pub flag_borrows : (k flag : ℕ) → found ≡ Some k → flag ≡ get_or flags k 0 → flag ≡ 1 → Borrows ≡ on_flag flags own place
   flag_borrows k flag e f h = rw (sym is ∙ e) (simp (← f, eq-eqb flag 1 h))
 
-  pub flag_own : (k flag : ℕ) → found ≡ Row k → flag ≡ get_or flags k 0 → (flag ≡ 1 → ⊥) → own ≡ on_flag flags own place
+  pub flag_own : (k flag : ℕ) → found ≡ Some k → flag ≡ get_or flags k 0 → (flag ≡ 1 → ⊥) → own ≡ on_flag flags own place
   flag_own k flag e f h = rw (sym is ∙ e) (simp (← f, ne_eqb flag 1 h))
 
-  pub flag_none : found ≡ Nowhere → own ≡ on_flag flags own place
+  pub flag_none : found ≡ None → own ≡ on_flag flags own place
   flag_none e = rw (sym is ∙ e) refl
 
 module _ (place found : Place) (is : found ≡ place) where
-  pub cell_known : (k : ℕ) → found ≡ Row k → k < 128 → k + 1 ≡ cell_at place
+  pub cell_known : (k : ℕ) → found ≡ Some k → k < 128 → k + 1 ≡ cell_at place
   cell_known k e h = rw (sym is ∙ e) (simp (lt-ltb k 128 h))
 
-  pub cell_past : (k : ℕ) → found ≡ Row k → 128 ≤ k → 0 ≡ cell_at place
+  pub cell_past : (k : ℕ) → found ≡ Some k → 128 ≤ k → 0 ≡ cell_at place
   cell_past k e h = rw (sym is ∙ e) (simp (le-ltb k 128 h))
 
-  pub cell_none : found ≡ Nowhere → 0 ≡ cell_at place
+  pub cell_none : found ≡ None → 0 ≡ cell_at place
   cell_none e = rw (sym is ∙ e) refl
 
 module _ (row : ℕ → Place) (callees : List ℕ) (place found : Place) (is : found ≡ place) where
-  pub block_known : (k callee cell : ℕ) → found ≡ Row k → callee ≡ get_or callees k 0 → cell ≡ cell_at (row callee) → cell ≡ block_by row callees place
+  pub block_known : (k callee cell : ℕ) → found ≡ Some k → callee ≡ get_or callees k 0 → cell ≡ cell_at (row callee) → cell ≡ block_by row callees place
   block_known k callee cell e f h = rw (sym is ∙ e) (h ∙ ap (λ (n : ℕ). cell_at (row n)) f)
 
-  pub block_none : found ≡ Nowhere → 0 ≡ block_by row callees place
+  pub block_none : found ≡ None → 0 ≡ block_by row callees place
   block_none e = rw (sym is ∙ e) refl
 
 module _ (moves : ℕ → Move) (op : ℕ) (operands : List ℕ) (source m : Move) (is : source ≡ moves op) (told : source ≡ m) where

@@ -1,7 +1,8 @@
 -- On an input that is not refused, what the code reads is 01's: hints and a function's own number find the row that reading row after row finds. An
 -- instruction that is plain does to the buffers what the table says and opens nothing. A cell is at most 128.
 -- Assumes nothing.
-use Rattle.std.specs.Prelude.{ℕ, ◌+◌, ◌≤◌, ◌≡◌, refl, Bool, true, false, List, eqb, ltb, get_or}
+use Rattle.codes.specs.First.{Place}
+use Rattle.std.specs.Prelude.{ℕ, ◌+◌, ◌≤◌, ◌≡◌, refl, Bool, true, false, List, eqb, ltb, get_or, Some, None}
 use Rattle.std.proofs.Common.{arith, ◌∙◌, ltb-true}
 use Rattle.std.proofs.Math.Path.{ap}
 use Rattle.std.proofs.Math.Bool.{cond}
@@ -10,8 +11,6 @@ use Rattle.tables.specs.declared.Move.{Move}
 use Rattle.tables.specs.declared.Move.TheVariants.{Fixed, Builtin, Call, Method}
 use Rattle.tables.specs.declared.TempEffect.{TempEffect}
 use Rattle.flow.specs.Decode.{word_at}
-use Rattle.codes.specs.declared.Place.{Place}
-use Rattle.codes.specs.declared.Place.TheVariants.{Row, Nowhere}
 use Rattle.codes.specs.Lookup.{place_of, hinted_of}
 use Rattle.codes.proofs.LookupLaws.{hinted_place}
 use Rattle.program.specs.declared.Room.{Room}
@@ -37,14 +36,14 @@ cell_by k true e = let l = ltb-true k 128 e in omega arith
 cell_by k false e = omega arith
 
 cell_le : (p : Place) → cell_at p ≤ 128
-cell_le (Row k) = cell_by k (ltb k 128) refl
-cell_le Nowhere = omega arith
+cell_le (Some k) = cell_by k (ltb k 128) refl
+cell_le None = omega arith
 
 -- a cell that is opened is some function's: what bounds those bounds it
 module _ (x : ℕ) (row : ℕ → Place) (cells : (id : ℕ) → cell_at (row id) ≤ x) (types callees : List ℕ) where
   block_within : (p : Place) → block_by row callees p ≤ x
-  block_within (Row k) = cells (get_or callees k 0)
-  block_within Nowhere = omega arith
+  block_within (Some k) = cells (get_or callees k 0)
+  block_within None = omega arith
 
   block_by_lem : (p : Place) (b : Bool) → cond b (block_by row callees p) 0 ≤ x
   block_by_lem p true = block_within p

@@ -1,15 +1,12 @@
 -- What the check of the rows means: it decides exactly, and rising ids are in strict order; what a fault means: proofs/Laws.antt.
 -- Assumes nothing.
-use Rattle.std.specs.Prelude.{ℕ, zero, suc, ◌≤◌, ◌<◌, ◌≡◌, refl, ◌⊎◌, Bool, true, false, ◌||◌, List, ltb, length, get_or}
+use Rattle.std.specs.Prelude.{ℕ, zero, suc, ◌≤◌, ◌<◌, ◌≡◌, refl, ◌⊎◌, Bool, true, false, ◌||◌, List, ltb, length, get_or, Ok, Some, None}
 use Rattle.std.proofs.Common.{le_of_eq, le_of_lt, eq-or-lt_of_le, not-suc-le-zero, le_of_suc-le-suc, arith, true≢false}
 use Rattle.std.proofs.Math.Path.{ap}
 use Rattle.std.proofs.Math.Logic.{inl, inr, ⊎_elim}
 use borrow.Author.Tests.{ltb-true, ltb-false, lt-ltb, le-ltb}
-use Rattle.codes.specs.First.{None, nowhere_means, nowhere_if}
+use Rattle.codes.specs.First.{NoneOf, nowhere_means, nowhere_if, Place}
 use Rattle.codes.specs.Rows.{low_at, faulty, order_of, rows_of}
-use Rattle.codes.specs.declared.Order.TheVariants.{Rises}
-use Rattle.codes.specs.declared.Place.{Place}
-use Rattle.codes.specs.declared.Place.TheVariants.{Row, Nowhere}
 
 pub or_true : (a b : Bool) → (a || b) ≡ true → (a ≡ true) ⊎ (b ≡ true)
 or_true true b e = inl refl
@@ -53,21 +50,21 @@ module _ (ids flags : List ℕ) where
   unfolding faulty
   sound_row k h l = rw (le-ltb (get_or ids k 0) (low_at ids k) h) (le-ltb 1 (get_or flags k 0) l)
 
-  rises_by : (p : Place) → order_of p ≡ Rises → p ≡ Nowhere
-  rises_by (Row k) e = absurd (let z : ◌≡◌ {A = ℕ} 0 1 = cc in omega arith)
-  rises_by Nowhere e = refl
+  rises_by : (p : Place) → order_of p ≡ Ok tt → p ≡ None
+  rises_by (Some k) e = absurd (let z : ◌≡◌ {A = ℕ} 0 1 = cc in omega arith)
+  rises_by None e = refl
 
   -- no fault: no row is faulty
-  pub rises_none : rows_of ids flags ≡ Rises → None (faulty ids flags) (length ids)
+  pub rises_none : rows_of ids flags ≡ Ok tt → NoneOf (faulty ids flags) (length ids)
   unfolding rows_of
   rises_none e = nowhere_means _ _ (rises_by _ e)
 
-  pub none_rises : None (faulty ids flags) (length ids) → rows_of ids flags ≡ Rises
+  pub none_rises : NoneOf (faulty ids flags) (length ids) → rows_of ids flags ≡ Ok tt
   unfolding rows_of
   none_rises n = ap order_of (nowhere_if _ _ n)
 
   -- the rows rise exactly where each id is above its predecessor's and each flag is at most 1
-  pub rises_means : rows_of ids flags ≡ Rises → Rising ids flags
+  pub rises_means : rows_of ids flags ≡ Ok tt → Rising ids flags
   rises_means e =
       let n = rises_none e in
       record {
@@ -79,7 +76,7 @@ module _ (ids flags : List ℕ) where
   low_row r zero h = omega arith
   low_row r (suc k) h = r.above k h
 
-  pub rises_if : Rising ids flags → rows_of ids flags ≡ Rises
+  pub rises_if : Rising ids flags → rows_of ids flags ≡ Ok tt
   rises_if r = none_rises (record { passed = λ k h. sound_row k (low_row r k h) (r.flagged k h) })
 
   ordered : Rising ids flags → (p q : ℕ) → p < q → q < length ids → get_or ids p 0 < get_or ids q 0
@@ -92,10 +89,10 @@ module _ (ids flags : List ℕ) where
       (eq-or-lt_of_le (le_of_suc-le-suc l))
 
   -- ids that rise are in strict order
-  pub rising_order : rows_of ids flags ≡ Rises → (p q : ℕ) → p < q → q < length ids → get_or ids p 0 < get_or ids q 0
+  pub rising_order : rows_of ids flags ≡ Ok tt → (p q : ℕ) → p < q → q < length ids → get_or ids p 0 < get_or ids q 0
   rising_order e p q l h = ordered (rises_means e) p q l h
 
   -- the same, where the rows may be one
-  pub rising_le : rows_of ids flags ≡ Rises → (p q : ℕ) → p ≤ q → q < length ids → get_or ids p 0 ≤ get_or ids q 0
+  pub rising_le : rows_of ids flags ≡ Ok tt → (p q : ℕ) → p ≤ q → q < length ids → get_or ids p 0 ≤ get_or ids q 0
   rising_le e p q l h =
       ⊎_elim (λ w. le_of_eq (ap (λ (k : ℕ). get_or ids k 0) w)) (λ w. le_of_lt (rising_order e p q w h)) (eq-or-lt_of_le l)

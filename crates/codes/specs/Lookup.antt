@@ -1,11 +1,8 @@
 -- What the code list says of an id: row after row, by halving, and by hints.
 -- Assumes nothing.
-use Rattle.std.specs.Prelude.{ℕ, zero, suc, ◌+◌, ◌-◌, ◌/◌, ◌%◌, Bool, cond, List, leb, ltb, eqb, length, get_or, set}
-use Rattle.codes.specs.First.{first_of}
-use Rattle.codes.specs.declared.Place.{Place}
-use Rattle.codes.specs.declared.Place.TheVariants.{Row, Nowhere}
-use Rattle.codes.specs.declared.Entry.{Entry}
-use Rattle.codes.specs.declared.Entry.TheVariants.{Listed, Unknown}
+use Rattle.codes.specs.declared.Listed.{Listed}
+use Rattle.std.specs.Prelude.{ℕ, zero, suc, ◌+◌, ◌-◌, ◌/◌, ◌%◌, Bool, cond, List, leb, ltb, eqb, length, get_or, set, Some, None, Option}
+use Rattle.codes.specs.First.{first_of, Place}
 
 abbrev pub has_id : List ℕ → ℕ → ℕ → Bool
 has_id ids id k = eqb (get_or ids k 0) id
@@ -16,7 +13,7 @@ place_of ids id = first_of (has_id ids id) (length ids)
 
 -- a row where it has the id
 unfoldable pub row_if : List ℕ → ℕ → ℕ → Place
-row_if ids id k = cond (ltb k (length ids)) (cond (has_id ids id k) (Row k) Nowhere) Nowhere
+row_if ids id k = cond (ltb k (length ids)) (cond (has_id ids id k) (Some k) None) None
 
 -- of the rows from lo on, `size` of them: where the half begins that may have the id
 abbrev pub half_of : List ℕ → ℕ → ℕ → ℕ → ℕ
@@ -32,10 +29,14 @@ halve (suc turns) ids id lo size =
 unfoldable pub halved_of : List ℕ → ℕ → Place
 halved_of ids id = halve (length ids) ids id 0 (length ids)
 
+-- what the list says of an id, if it has the id
+abbrev pub Entry : Type 0
+Entry = Option Listed
+
 -- 01, "code-list rows (id, argument count, borrows-a-buffer 0 or 1)"
 abbrev pub entry_at : List ℕ → List ℕ → Place → Entry
-entry_at counts flags (Row k) = Listed (get_or counts k 0) (get_or flags k 0)
-entry_at counts flags Nowhere = Unknown
+entry_at counts flags (Some k) = Some (record { count = get_or counts k 0; flag = get_or flags k 0 })
+entry_at counts flags None = None
 
 -- row after row
 unfoldable pub entry_of : List ℕ → List ℕ → List ℕ → ℕ → Entry
@@ -58,8 +59,8 @@ unfoldable pub noted_for : ℕ → List ℕ → List ℕ → List ℕ
 noted_for bytes ids hints = cond (leb (length ids / 4 + 256) bytes) (noted ids hints) hints
 
 abbrev pub or_else : Place → Place → Place
-or_else (Row k) other = Row k
-or_else Nowhere other = other
+or_else (Some k) other = Some k
+or_else None other = other
 
 -- the hinted row where it has the id, else by halving
 unfoldable pub hinted_of : List ℕ → List ℕ → ℕ → Place

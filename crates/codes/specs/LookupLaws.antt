@@ -1,6 +1,6 @@
 -- What a place means, and that halving finds the row that reading row after row finds; with hints: proofs/LookupLaws.antt.
 -- Assumes nothing.
-use Rattle.std.specs.Prelude.{ℕ, zero, suc, ◌+◌, ◌-◌, ◌/◌, ◌^◌, ◌≤◌, ◌<◌, ◌≡◌, refl, List, length, get_or}
+use Rattle.std.specs.Prelude.{ℕ, zero, suc, ◌+◌, ◌-◌, ◌/◌, ◌^◌, ◌≤◌, ◌<◌, ◌≡◌, refl, List, length, get_or, Ok, Some, None}
 use Rattle.std.proofs.Common.{not-suc-le-zero, pow-suc, arith, ◌∙◌, sym}
 use Rattle.std.proofs.Math.Nat.{pow-zero}
 use Rattle.std.proofs.Math.Decide.{dec_lt}
@@ -10,48 +10,46 @@ use Rattle.codes.specs.First.{row_means, nowhere_means, row_if_lem, nowhere_if}
 use Rattle.codes.specs.Rows.{rows_of}
 use Rattle.codes.specs.Lookup.{has_id, place_of, row_if, half_of, halve, halved_of, entry_at, entry_of, looked_up}
 use Rattle.codes.specs.Laws.{rising_order, rising_le}
-use Rattle.codes.specs.declared.Order.TheVariants.{Rises}
-use Rattle.codes.specs.declared.Place.TheVariants.{Row, Nowhere}
 
 module _ (ids : List ℕ) (id : ℕ) where
   -- an id that no row has
-  pub place_nowhere : ((j : ℕ) → j < length ids → get_or ids j 0 ≡ id → ⊥) → place_of ids id ≡ Nowhere
+  pub place_nowhere : ((j : ℕ) → j < length ids → get_or ids j 0 ≡ id → ⊥) → place_of ids id ≡ None
   unfolding place_of
   place_nowhere miss = nowhere_if _ _ (record { passed = λ j h. ne_eqb (get_or ids j 0) id (miss j h) })
 
   -- an id that a row has, and no row before it
-  pub place_row : (r : ℕ) → r < length ids → get_or ids r 0 ≡ id → ((j : ℕ) → j < r → get_or ids j 0 ≡ id → ⊥) → place_of ids id ≡ Row r
+  pub place_row : (r : ℕ) → r < length ids → get_or ids r 0 ≡ id → ((j : ℕ) → j < r → get_or ids j 0 ≡ id → ⊥) → place_of ids id ≡ Some r
   unfolding place_of
   place_row r h e miss =
       row_if_lem _ _ _ (record { inside = h; picked = eq-eqb (get_or ids r 0) id e; earlier = λ j l. ne_eqb (get_or ids j 0) id (miss j l) })
 
   -- a place is a row of the column, with the id, and the first such
-  pub place_in : (r : ℕ) → place_of ids id ≡ Row r → r < length ids
+  pub place_in : (r : ℕ) → place_of ids id ≡ Some r → r < length ids
   unfolding place_of
   place_in r e = (row_means _ _ _ e).inside
 
-  pub place_has : (r : ℕ) → place_of ids id ≡ Row r → get_or ids r 0 ≡ id
+  pub place_has : (r : ℕ) → place_of ids id ≡ Some r → get_or ids r 0 ≡ id
   unfolding place_of
   place_has r e = eqb-true (get_or ids r 0) id (row_means (has_id ids id) (length ids) r e).picked
 
-  pub place_first : (r : ℕ) → place_of ids id ≡ Row r → (j : ℕ) → j < r → get_or ids j 0 ≡ id → ⊥
+  pub place_first : (r : ℕ) → place_of ids id ≡ Some r → (j : ℕ) → j < r → get_or ids j 0 ≡ id → ⊥
   unfolding place_of
   place_first r e j l = eqb-false (get_or ids j 0) id ((row_means (has_id ids id) (length ids) r e).earlier j l)
 
-  pub place_missing : place_of ids id ≡ Nowhere → (j : ℕ) → j < length ids → get_or ids j 0 ≡ id → ⊥
+  pub place_missing : place_of ids id ≡ None → (j : ℕ) → j < length ids → get_or ids j 0 ≡ id → ⊥
   unfolding place_of
   place_missing e j l = eqb-false (get_or ids j 0) id ((nowhere_means (has_id ids id) (length ids) e).passed j l)
 
   -- what is said of the one row that is left
-  pub row_here : (k : ℕ) → k < length ids → get_or ids k 0 ≡ id → row_if ids id k ≡ Row k
+  pub row_here : (k : ℕ) → k < length ids → get_or ids k 0 ≡ id → row_if ids id k ≡ Some k
   unfolding row_if
   row_here k h e = rw (lt-ltb k (length ids) h, eq-eqb (get_or ids k 0) id e)
 
-  pub row_other : (k : ℕ) → k < length ids → (get_or ids k 0 ≡ id → ⊥) → row_if ids id k ≡ Nowhere
+  pub row_other : (k : ℕ) → k < length ids → (get_or ids k 0 ≡ id → ⊥) → row_if ids id k ≡ None
   unfolding row_if
   row_other k h e = rw (lt-ltb k (length ids) h, ne_eqb (get_or ids k 0) id e)
 
-  pub row_past : (k : ℕ) → length ids ≤ k → row_if ids id k ≡ Nowhere
+  pub row_past : (k : ℕ) → length ids ≤ k → row_if ids id k ≡ None
   unfolding row_if
   row_past k h = rw (le-ltb k (length ids) h)
 
@@ -94,7 +92,7 @@ record Bracket (ids : List ℕ) (id lo size : ℕ) : Type 0 where
   below : (k : ℕ) → k < lo → get_or ids k 0 < id
   above : (k : ℕ) → lo + size ≤ k → k < length ids → id < get_or ids k 0
 
-module _ (ids flags : List ℕ) (rises : rows_of ids flags ≡ Rises) (id : ℕ) where
+module _ (ids flags : List ℕ) (rises : rows_of ids flags ≡ Ok tt) (id : ℕ) where
   module _ (lo size : ℕ) (b : Bracket ids id lo size) where
     -- where one row is left, no other has the id
     other : size ≤ 1 → (get_or ids lo 0 ≡ id → ⊥) → (j : ℕ) → Dec (j < lo) → Dec (lo < j) → j < length ids → get_or ids j 0 ≡ id → ⊥

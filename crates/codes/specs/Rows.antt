@@ -1,11 +1,7 @@
 -- 01, 34: "code-list ids not rising, or flag above 1".
 -- Assumes nothing.
-use Rattle.std.specs.Prelude.{ℕ, zero, suc, Bool, ◌||◌, List, ltb, length, get_or}
-use Rattle.codes.specs.First.{first_of}
-use Rattle.codes.specs.declared.Order.{Order}
-use Rattle.codes.specs.declared.Order.TheVariants.{Rises, Fault}
-use Rattle.codes.specs.declared.Place.{Place}
-use Rattle.codes.specs.declared.Place.TheVariants.{Row, Nowhere}
+use Rattle.std.specs.Prelude.{ℕ, zero, suc, Bool, ◌||◌, List, ltb, length, get_or, Ok, Err, Some, None, Result}
+use Rattle.codes.specs.First.{first_of, Place}
 
 -- the least id that row k may have: one more than its predecessor's
 abbrev pub low_at : List ℕ → ℕ → ℕ
@@ -16,9 +12,13 @@ low_at ids (suc k) = suc (get_or ids k 0)
 unfoldable pub faulty : List ℕ → List ℕ → ℕ → Bool
 faulty ids flags k = ltb (get_or ids k 0) (low_at ids k) || ltb 1 (get_or flags k 0)
 
+-- whether the rows are in order; else the first faulty one
+abbrev pub Order : Type 0
+Order = Result (Unit {0}) ℕ
+
 abbrev pub order_of : Place → Order
-order_of (Row k) = Fault k
-order_of Nowhere = Rises
+order_of (Some k) = Err k
+order_of None = (Ok tt)
 
 -- the rows one after the other, up to the first faulty one
 unfoldable pub rows_of : List ℕ → List ℕ → Order

@@ -6,46 +6,38 @@ ghost use Rattle.std.specs.Prelude.{◌≡◌, cond, leb, ◌+◌, ◌<◌, ◌%
 ghost use Rattle.codes.specs.Rows.{rows_of};
 ghost use Rattle.codes.specs.Lookup.{halved_of, looked_up, entry_at, noted, noted_for, hinted_of, hinted_up};
 
-// Whether the rows are in order; else the first faulty one.
-#[derive(Drop)]
-pub enum Order {
-    Rises,
-    Fault(usize),
+// The list's columns.
+#[derive(Clone, Copy)]
+pub struct CodeList<'a> {
+    pub ids: &'a [u16],
+    pub counts: &'a [u16],
+    pub flags: &'a [u16],
 }
 
-// Where an id stands.
-#[derive(Drop)]
-pub enum Place {
-    Row(usize),
-    Nowhere,
+// What the list says of an id: its argument count and its flag.
+#[derive(Clone, Copy, PartialEq, Eq, Debug)]
+pub struct Listed {
+    pub count: u16,
+    pub flag: u16,
 }
 
-// What the list says of an id: its argument count and its flag, or nothing.
-#[derive(Drop)]
-pub enum Entry {
-    Listed { count: u16, flag: u16 },
-    Unknown,
-}
-
-// Refusal 34: ids not rising, or a flag above 1. `low` is the least id that the row may have.
-pub fn check_rows(ids: &[u16], flags: &[u16]) -> Order
+// Refusal 34: ids not rising, or a flag above 1; the error is the first faulty row. `low` is the least id that the row may have.
+pub fn check_rows(ids: &[u16], flags: &[u16]) -> Result<(), usize>
     ensures { result ≡ rows_of ids.now flags.now }
 {
     let mut low: u32 = 0;
-    let mut i: usize = 0;
-    while i < ids.len() {
+    for i in 0..ids.len() {
         let id = ids[i] as u32;
         if id < low {
-            return Order::Fault(i);
+            return Err(i);
         }
         let flag = cells::at(flags, i);
         if flag > 1 {
-            return Order::Fault(i); // 256 too, whose low byte is 0
+            return Err(i); // 256 too, whose low byte is 0
         }
         low = id + 1;
-        i += 1;
     }
-    Order::Rises
+    Ok(())
 }
 
 // Where the half begins that may have the id: a product in place of a choice, since the compiler makes a jump of a choice, and no
@@ -58,7 +50,7 @@ fn later(middle: u16, id: u16, low: usize, half: usize) -> usize
 }
 
 // The place of an id, by halving: every lookup in as many rows takes the same turns.
-pub fn find(ids: &[u16], id: u16) -> Place
+pub fn find(ids: &[u16], id: u16) -> Option<usize>
     ensures { result ≡ halved_of ids.now id }
 {
     let mut lo: usize = 0;
@@ -70,30 +62,28 @@ pub fn find(ids: &[u16], id: u16) -> Place
     }
     if lo < ids.len() {
         if ids[lo] == id {
-            return Place::Row(lo);
+            return Some(lo);
         }
     }
-    Place::Nowhere
+    None
 }
 
 // What the list says at a place.
-fn entry_at(counts: &[u16], flags: &[u16], place: Place) -> Entry
-    ensures { result ≡ entry_at counts.now flags.now place }
+fn entry_at(list: &CodeList<'_>, place: Option<usize>) -> Option<Listed>
+    ensures { result ≡ entry_at list.now.counts.now list.now.flags.now place }
 {
-    match place {
-        Place::Row(row) => Entry::Listed {
-            count: cells::at(counts, row),
-            flag: cells::at(flags, row),
-        },
-        Place::Nowhere => Entry::Unknown,
-    }
+    let row = place?;
+    Some(Listed {
+        count: cells::at(list.counts, row),
+        flag: cells::at(list.flags, row),
+    })
 }
 
 // The two lookups of builtin.rs over the list: the count and the flag of an id.
-pub fn lookup(ids: &[u16], counts: &[u16], flags: &[u16], id: u16) -> Entry
-    ensures { result ≡ looked_up ids.now counts.now flags.now id }
+pub fn lookup(list: &CodeList<'_>, id: u16) -> Option<Listed>
+    ensures { result ≡ looked_up list.now.ids.now list.now.counts.now list.now.flags.now id }
 {
-    entry_at(counts, flags, find(ids, id))
+    entry_at(list, find(list.ids, id))
 }
 
 // The cell of an id's hint.
@@ -115,9 +105,7 @@ fn hint_of(row: usize) -> u16
 pub fn note_rows(hints: &mut [u16], ids: &[u16])
     ensures { hints.new ≡ noted ids.now hints.old }
 {
-    let mut row = ids.len();
-    while 0 < row {
-        row -= 1;
+    for row in (0..ids.len()).rev() {
         cells::put(hints, hint_cell(ids[row]), hint_of(row));
     }
 }
@@ -132,28 +120,22 @@ pub fn note_for(hints: &mut [u16], ids: &[u16], bytes: usize)
     }
 }
 
-fn wide(x: u16) -> usize
-    ensures { result ≡ x }
-{
-    x as usize
-}
-
 // The place of an id: the hinted row if it has the id, else by halving. A wrong hint costs time and nothing else.
-pub fn find_hinted(hints: &[u16], ids: &[u16], id: u16) -> Place
+pub fn find_hinted(hints: &[u16], ids: &[u16], id: u16) -> Option<usize>
     ensures { result ≡ hinted_of hints.now ids.now id }
 {
-    let row = wide(cells::at(hints, hint_cell(id)));
+    let row = cells::at(hints, hint_cell(id)) as usize;
     if row < ids.len() {
         if ids[row] == id {
-            return Place::Row(row);
+            return Some(row);
         }
     }
     find(ids, id)
 }
 
 // `lookup`, with hints that may hold anything.
-pub fn look_up(hints: &[u16], ids: &[u16], counts: &[u16], flags: &[u16], id: u16) -> Entry
-    ensures { result ≡ hinted_up hints.now ids.now counts.now flags.now id }
+pub fn look_up(hints: &[u16], list: &CodeList<'_>, id: u16) -> Option<Listed>
+    ensures { result ≡ hinted_up hints.now list.now.ids.now list.now.counts.now list.now.flags.now id }
 {
-    entry_at(counts, flags, find_hinted(hints, ids, id))
+    entry_at(list, find_hinted(hints, list.ids, id))
 }

@@ -7,9 +7,8 @@ use mathlib.Core.Bool.{Bool, true, false}
 use mathlib.Core.List.{List}
 use lib.ListN.{length, take, drop, replicate, length-append, length-replicate}
 use lib.Seq.{take_at}
-use Rattle.program.specs.declared.Input.{Input}
 use Rattle.program.specs.Program.{PoolProgram, list_of, functions_of, program_of, descriptors_of, pool_program_of}
-use Rattle.program.specs.Refusals.{input_number, input_place, is_taken, room_of, pool_input}
+use Rattle.program.specs.Refusals.{input_number, input_place, is_taken, room_of, pool_input, Input}
 use Rattle.file.specs.declared.Sizes.{Sizes}
 use Rattle.file.specs.declared.Reading.{Reading}
 use Rattle.file.specs.declared.Reading.TheVariants.{At, Stopped}

@@ -2,9 +2,8 @@
 -- Assumes nothing.
 use Rattle.std.specs.Prelude.{ℕ, cond, List}
 use Rattle.program.specs.declared.Room.{Room}
-use Rattle.program.specs.declared.Input.{Input}
 use Rattle.program.specs.Program.{PoolProgram, list_of, functions_of, program_of, descriptors_of, pool_program_of}
-use Rattle.program.specs.Refusals.{input_number, input_place, is_taken, room_of, pool_input}
+use Rattle.program.specs.Refusals.{input_number, input_place, is_taken, room_of, pool_input, Input}
 use Rattle.file.specs.Stated.{Bench, Stated, states, refuses, stated}
 use Rattle.stack.specs.Stack as stack
 use Rattle.pool.specs.Pool as pool

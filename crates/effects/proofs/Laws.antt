@@ -1,7 +1,8 @@
 -- On an input that is not refused, what the code reads of an effect is 01's: the halving finds the row that reading row after row finds, a function's
 -- own number is its row, and where a METHOD_CALL stands the filled column holds what decoding each callee says.
 -- Assumes nothing.
-use Rattle.std.specs.Prelude.{ℕ, zero, suc, ◌+◌, ◌≤◌, ◌<◌, ◌≡◌, Bool, true, false, length, set}
+use Rattle.codes.specs.First.{Place}
+use Rattle.std.specs.Prelude.{ℕ, zero, suc, ◌+◌, ◌≤◌, ◌<◌, ◌≡◌, Bool, true, false, length, set, Some, None}
 use Rattle.std.proofs.Common.{arith, ◌∙◌, sym, length-set, get_or-set_same, get_or-set_other}
 use Rattle.std.proofs.Math.Decide.{ℕ_discrete}
 use Rattle.std.proofs.Math.Path.{refl, ap}
@@ -14,8 +15,6 @@ use Rattle.tables.specs.declared.Move.TheVariants.{Fixed, Builtin, Call, Method}
 use Rattle.tables.specs.Set.{effect, size_of}
 use Rattle.flow.specs.Decode.{word_at}
 use Rattle.flow.specs.Walk.{walk_by, has_ret}
-use Rattle.codes.specs.declared.Place.{Place}
-use Rattle.codes.specs.declared.Place.TheVariants.{Row, Nowhere}
 use Rattle.codes.specs.Lookup.{place_of}
 use Rattle.codes.specs.LookupLaws.{place_in, place_nowhere, place_missing}
 use Rattle.codes.proofs.LookupLaws.{hinted_up_lem}
@@ -56,8 +55,8 @@ given_at sizes offsets lengths code column k r h = cell (λ row. gives_back size
 
 -- METHOD_CALL's byte is named where a byte of the code is it, and only there
 named_by : (code : List ℕ) (k : ℕ) → k < length code → get_or code k 0 ≡ 0xF8 → (o : Place) → place_of code 0xF8 ≡ o → is_there o ≡ true
-named_by code k h e (Row j) w = refl
-named_by code k h e Nowhere w = absurd (place_missing code 0xF8 w k h e)
+named_by code k h e (Some j) w = refl
+named_by code k h e None w = absurd (place_missing code 0xF8 w k h e)
 
 pub method_named : (code : List ℕ) (k : ℕ) → k < length code → get_or code k 0 ≡ 0xF8 → names_method code ≡ true
 unfolding names_method
@@ -80,11 +79,11 @@ module _ (p : Program) (room : Room) (t : StackTaken p room) (column : List ℕ)
   method_by_lem : (id : ℕ) (o : Place) → place_of p.functions.ids id ≡ o
       → on_place p.functions.parameters (λ k. get_or all k 0) id o ≡ on_place p.functions.parameters (λ k. cond (has_ret (walk_by size_of (body_of p k) 0)) 1 0) id o
   unfolding gives_back
-  method_by_lem id (Row k) e =
+  method_by_lem id (Some k) e =
       let h = place_in p.functions.ids id k e in
       let g = given_at size_of p.functions.offsets p.functions.lengths p.code column k (omega (arith, t.offsets_length, t.functions_limit)) (omega (arith, t.offsets_length)) in
       ap (λ (n : ℕ). Known.Moves (effect (get_or p.functions.parameters k 0) n)) (g ∙ ap (λ (b : List ℕ). cond (has_ret (walk_by size_of b 0)) 1 0) (sym (body_is p k)))
-  method_by_lem id Nowhere e = refl
+  method_by_lem id None e = refl
 
   move_known : (hints operands : List ℕ) (m : Move) → (m ≡ Method → given ≡ all) → move_by hints p.list columns operands m ≡ move_of_program p operands m
   unfolding builtin_by call_by method_by

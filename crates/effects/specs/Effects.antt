@@ -1,17 +1,14 @@
 -- What an instruction takes and leaves in a program. `known_by` reads lent columns as the code does; `known_of` is 01's, with every lookup row by row
 -- and each callee decoded; proofs/Laws.antt says that on an input that is not refused they are one.
 -- Assumes nothing.
-use Rattle.std.specs.Prelude.{ℕ, zero, suc, Bool, true, false, cond, List, length, get_or, set, take, drop}
+use Rattle.codes.specs.First.{Place}
+use Rattle.std.specs.Prelude.{ℕ, zero, suc, Bool, true, false, cond, List, length, get_or, set, take, drop, Some, None}
 use Rattle.tables.specs.declared.Move.{Move}
 use Rattle.tables.specs.declared.Move.TheVariants.{Fixed, Builtin, Call, Method}
 use Rattle.tables.specs.Set.{effect, size_of}
 use Rattle.flow.specs.Decode.{word_at}
 use Rattle.flow.specs.Walk.{walk_by, has_ret}
-use Rattle.codes.specs.declared.Entry.{Entry}
-use Rattle.codes.specs.declared.Entry.TheVariants.{Listed, Unknown}
-use Rattle.codes.specs.declared.Place.{Place}
-use Rattle.codes.specs.declared.Place.TheVariants.{Row, Nowhere}
-use Rattle.codes.specs.Lookup.{hinted_up, entry_of, place_of}
+use Rattle.codes.specs.Lookup.{hinted_up, entry_of, place_of, Entry}
 use Rattle.program.specs.Program.{CodeList, Program, body_of}
 use Rattle.program.specs.Seat.{seat_of}
 use Rattle.rules.specs.declared.Known.{Known}
@@ -27,13 +24,13 @@ directory_of i p g = record { ids = i; parameters = p; given = g }
 
 -- BUILTIN takes its listed count and leaves 1
 abbrev pub on_entry : ℕ → Entry → Known
-on_entry id (Listed count flag) = Known.Moves (effect count 1)
-on_entry id Unknown = Known.UnknownBuiltin id
+on_entry id (Some listed) = Known.Moves (effect listed.count 1)
+on_entry id None = Known.UnknownBuiltin id
 
 -- CALL and METHOD_CALL take the callee's parameter count
 abbrev pub on_place : List ℕ → (ℕ → ℕ) → ℕ → Place → Known
-on_place parameters leaves id (Row k) = Known.Moves (effect (get_or parameters k 0) (leaves k))
-on_place parameters leaves id Nowhere = Known.UnknownCallee id
+on_place parameters leaves id (Some k) = Known.Moves (effect (get_or parameters k 0) (leaves k))
+on_place parameters leaves id None = Known.UnknownCallee id
 
 unfoldable pub builtin_by : List ℕ → CodeList → ℕ → Known
 builtin_by hints list id = on_entry id (hinted_up hints list.ids list.counts list.flags id)
@@ -67,8 +64,8 @@ unfoldable pub filled : (ℕ → ℕ) → List ℕ → List ℕ → List ℕ →
 filled sizes offsets lengths code column = fill_from (λ row. gives_back sizes code (get_or offsets row 0) (get_or lengths row 0)) (length offsets) 0 column
 
 abbrev pub is_there : Place → Bool
-is_there (Row k) = true
-is_there Nowhere = false
+is_there (Some k) = true
+is_there None = false
 
 -- a byte of the code is METHOD_CALL's, be it an opcode or not
 unfoldable pub names_method : List ℕ → Bool

@@ -1,12 +1,11 @@
 -- The laws of decoding that loops and the crates above use, in the place of the definitions, over any sizes.
 -- Assumes nothing.
-use Rattle.std.specs.Prelude.{ℕ, zero, suc, ◌+◌, ◌-◌, ◌≤◌, ◌<◌, ◌≡◌, Bool, true, false, cond, List, leb, eqb, length, get_or}
+use Rattle.std.specs.Prelude.{ℕ, zero, suc, ◌+◌, ◌-◌, ◌≤◌, ◌<◌, ◌≡◌, Bool, true, false, cond, List, leb, eqb, length, get_or, Ok}
 use Rattle.std.proofs.Math.Path.{refl}
 use Rattle.std.proofs.Common.{◌∙◌, ap, arith}
 use borrow.Author.Tests.{leb-true, leb-false, le-leb, lt-leb, eqb-false, ne_eqb}
 use Rattle.flow.specs.Decode.{step_by}
 use Rattle.flow.specs.Walk.{Walk, stops, instr, on_step, walk_in, walk_by}
-use Rattle.flow.specs.declared.starts.Decoded.TheVariants as D
 use Rattle.flow.specs.declared.Step.{Step}
 use Rattle.flow.specs.declared.Step.TheVariants.{End, Unknown, Truncated, Instruction}
 
@@ -89,5 +88,5 @@ module _ (sizes : ℕ → ℕ) (body : List ℕ) (at : ℕ) where
   pub walk_is : (st : Step) → step_by sizes body at ≡ st → walk_by sizes body at ≡ on_step at (walk_by sizes body) st
   walk_is st e = walk_step ∙ ap (on_step at (walk_by sizes body)) e
 
-  pub walk_end : length body ≤ at → walk_by sizes body at ≡ stops at D.Whole
+  pub walk_end : length body ≤ at → walk_by sizes body at ≡ stops at (Ok tt)
   walk_end h = walk_is End (step_end sizes body at h)

@@ -6,10 +6,9 @@ use mathlib.Core.List.{List}
 use native.Mathlib.Omega.{arith}
 use lib.ListN.{length, get_or, set, length-set}
 use borrow.Author.Tests.{ne_eqb}
-use Rattle.flow.specs.declared.starts.Decoded.{Decoded}
 use Rattle.flow.specs.declared.Step.TheVariants.{Instruction}
 use Rattle.flow.specs.Decode.{step_by}
-use Rattle.flow.specs.Walk.{Walk, stops, instr, walk_by, end_of, mark_all, has_ret}
+use Rattle.flow.specs.Walk.{Walk, stops, instr, walk_by, end_of, mark_all, has_ret, Decoded}
 use Rattle.flow.specs.Marked.{Marked, Skipped}
 use Rattle.flow.proofs.Laws.{stands, step_instruction, walk_is}
 

@@ -1,18 +1,16 @@
 -- Where control can stand in a body that decodes to its end: offset 0, an instruction's next offset and a legal target are each a start or
 -- the length. A walk that is led by these never leaves the starts.
 -- Assumes nothing.
-use Rattle.std.specs.Prelude.{ℕ, zero, suc, ◌+◌, ◌≤◌, ◌<◌, ◌≡◌, refl, ◌⊎◌, Bool, true, false, cond, List, ltb, eqb, length, get_or}
+use Rattle.std.specs.Prelude.{ℕ, zero, suc, ◌+◌, ◌≤◌, ◌<◌, ◌≡◌, refl, ◌⊎◌, Bool, true, false, cond, List, ltb, eqb, length, get_or, Ok, Err}
 use Rattle.std.proofs.Common.{◌∙◌, ap, sym, subst, inl, inr, ⊎_elim, arith, eqb-true, ltb-false, eq-eqb, ne_eqb}
 use Rattle.std.proofs.lemmas.Bool.{eqb-false}
 use Rattle.tables.specs.Packed.{turns}
 use Rattle.tables.specs.Laws.{no_turn}
-use Rattle.flow.specs.declared.starts.Decoded.TheVariants as D
 use Rattle.flow.specs.declared.Step.{Step}
 use Rattle.flow.specs.declared.Step.TheVariants.{End, Unknown, Truncated, Instruction}
 use Rattle.flow.specs.declared.Flow.TheVariants.{Next, Jump, Branch, Return}
 use Rattle.flow.specs.declared.Spot.{Spot}
 use Rattle.flow.specs.declared.Spot.TheVariants.{At, Before}
-use Rattle.flow.specs.declared.Target.TheVariants.{Legal, Illegal}
 use Rattle.flow.specs.Decode.{step_by, word_at, flow_of, target_of}
 use Rattle.cells.specs.Zeros.{zeros, length_zeros, any_zero}
 use Rattle.flow.specs.Walk.{instr, on_step, walk_in, walk_by, end_of, mark_all, marks_of, is_start}
@@ -30,18 +28,18 @@ module _ (sizes : ℕ → ℕ) (body : List ℕ) where
   abbrev Here : ℕ → ℕ → ℕ → Type 0
   Here left at t = (is_start (walk_in left sizes body at) t ≡ true) ⊎ (t ≡ length body)
 
-  first_on : (left at : ℕ) → at ≤ length body → (st : Step) → step_by sizes body at ≡ st → end_of (on_step at (walk_in left sizes body) st) ≡ D.Whole → (is_start (on_step at (walk_in left sizes body) st) at ≡ true) ⊎ (at ≡ length body)
+  first_on : (left at : ℕ) → at ≤ length body → (st : Step) → step_by sizes body at ≡ st → end_of (on_step at (walk_in left sizes body) st) ≡ (Ok tt) → (is_start (on_step at (walk_in left sizes body) st) at ≡ true) ⊎ (at ≡ length body)
   first_on left at h End e d = inr (let l = end_only sizes body at e in omega arith)
   first_on left at h (Unknown b) e d = absurd (let z : ◌≡◌ {A = ℕ} 0 1 = cc in omega arith)
   first_on left at h (Truncated op) e d = absurd (let z : ◌≡◌ {A = ℕ} 0 1 = cc in omega arith)
   first_on left at h (Instruction op size) e d = inl (here at (is_start (walk_in left sizes body (at + size)) at))
 
-  first_in : (left at : ℕ) → at ≤ length body → length body ≤ at + left → end_of (walk_in left sizes body at) ≡ D.Whole → Here left at at
+  first_in : (left at : ℕ) → at ≤ length body → length body ≤ at + left → end_of (walk_in left sizes body at) ≡ (Ok tt) → Here left at at
   first_in zero at h k d = inr (omega arith)
   first_in (suc left) at h k d = first_on left at h (step_by sizes body at) refl d
 
   -- offset 0
-  pub first_stands : end_of (walk_by sizes body 0) ≡ D.Whole → Standing sizes body 0
+  pub first_stands : end_of (walk_by sizes body 0) ≡ (Ok tt) → Standing sizes body 0
   unfolding walk_by
   first_stands d = first_in (length body) 0 (omega arith) (omega arith) d
 
@@ -49,8 +47,8 @@ module _ (sizes : ℕ → ℕ) (body : List ℕ) where
   next_of t = t + sizes (get_or body t 0)
 
   next_on : (left at t : ℕ) → length body ≤ at + suc left
-      → ((n : ℕ) → n ≤ length body → length body ≤ n + left → end_of (walk_in left sizes body n) ≡ D.Whole → is_start (walk_in left sizes body n) t ≡ true → Here left n (next_of t))
-      → (st : Step) → step_by sizes body at ≡ st → end_of (on_step at (walk_in left sizes body) st) ≡ D.Whole → is_start (on_step at (walk_in left sizes body) st) t ≡ true
+      → ((n : ℕ) → n ≤ length body → length body ≤ n + left → end_of (walk_in left sizes body n) ≡ (Ok tt) → is_start (walk_in left sizes body n) t ≡ true → Here left n (next_of t))
+      → (st : Step) → step_by sizes body at ≡ st → end_of (on_step at (walk_in left sizes body) st) ≡ (Ok tt) → is_start (on_step at (walk_in left sizes body) st) t ≡ true
       → (is_start (on_step at (walk_in left sizes body) st) (next_of t) ≡ true) ⊎ (next_of t ≡ length body)
   next_on left at t k go End e d s = absurd (true_not_false s)
   next_on left at t k go (Unknown b) e d s = absurd (true_not_false s)
@@ -66,18 +64,18 @@ module _ (sizes : ℕ → ℕ) (body : List ℕ) where
       (λ r. more (go (at + size) i.within (omega (arith, i)) d r))
       (split (eqb t at) (is_start (walk_in left sizes body (at + size)) t) s)
 
-  next_in : (left at t : ℕ) → length body ≤ at + left → end_of (walk_in left sizes body at) ≡ D.Whole → is_start (walk_in left sizes body at) t ≡ true → Here left at (next_of t)
+  next_in : (left at t : ℕ) → length body ≤ at + left → end_of (walk_in left sizes body at) ≡ (Ok tt) → is_start (walk_in left sizes body at) t ≡ true → Here left at (next_of t)
   next_in zero at t k d s = absurd (true_not_false s)
   next_in (suc left) at t k d s = next_on left at t k (λ n h l e r. next_in left n t l e r) (step_by sizes body at) refl d s
 
   -- the next offset of an instruction
-  pub next_stands : (t : ℕ) → end_of (walk_by sizes body 0) ≡ D.Whole → is_start (walk_by sizes body 0) t ≡ true → Standing sizes body (t + sizes (get_or body t 0))
+  pub next_stands : (t : ℕ) → end_of (walk_by sizes body 0) ≡ (Ok tt) → is_start (walk_by sizes body 0) t ≡ true → Standing sizes body (t + sizes (get_or body t 0))
   unfolding walk_by
   next_stands t d s = next_in (length body) 0 t (omega arith) d s
 
 -- what a legal target is, by the marks
 legal_by : (marks : List ℕ) (end at t : ℕ) (b1 b2 b3 : Bool) → eqb at end ≡ b1 → ltb end at ≡ b2 → eqb (get_or marks at 0) 0 ≡ b3
-    → cond b1 (Legal at) (cond b2 (Illegal (At at)) (cond b3 (Illegal (At at)) (Legal at))) ≡ Legal t
+    → cond b1 (Ok at) (cond b2 (Err (At at)) (cond b3 (Err (At at)) (Ok at))) ≡ Ok t
     → (t ≡ end) ⊎ ((t < end) × (get_or marks t 0 ≡ 0 → ⊥))
 legal_by marks end at t true b2 b3 e1 e2 e3 e = inl (let z : at ≡ t = cc in let w = eqb-true at end e1 in omega arith)
 legal_by marks end at t false true b3 e1 e2 e3 e = absurd (let z : ◌≡◌ {A = ℕ} 0 1 = cc in omega arith)
@@ -89,7 +87,7 @@ legal_by marks end at t false false false e1 e2 e3 e =
     let m = eqb-false (get_or marks at 0) 0 e3 in
     inr (omega arith, λ w. m (ap (λ (k : ℕ). get_or marks k 0) z ∙ w))
 
-pub legal : (marks : List ℕ) (end : ℕ) (spot : Spot) (t : ℕ) → target_of marks end spot ≡ Legal t → (t ≡ end) ⊎ ((t < end) × (get_or marks t 0 ≡ 0 → ⊥))
+pub legal : (marks : List ℕ) (end : ℕ) (spot : Spot) (t : ℕ) → target_of marks end spot ≡ Ok t → (t ≡ end) ⊎ ((t < end) × (get_or marks t 0 ≡ 0 → ⊥))
 unfolding target_of
 legal marks end (Before n) t e = absurd (let z : ◌≡◌ {A = ℕ} 0 1 = cc in omega arith)
 legal marks end (At at) t e = legal_by marks end at t (eqb at end) (ltb end at) (eqb (get_or marks at 0) 0) refl refl refl e
@@ -106,7 +104,7 @@ module _ (sizes : ℕ → ℕ) (body blank : List ℕ) (room : length body ≤ l
       start_by (is_start (walk_by sizes body 0) t) (sizes (get_or body t 0)) (get_or blank t 0) (clear t) (λ z. n (m ∙ z))
 
   -- a legal target
-  pub target_stands : (spot : Spot) (t : ℕ) → target_of (mark_all (walk_by sizes body 0) blank) (length body) spot ≡ Legal t → Standing sizes body t
+  pub target_stands : (spot : Spot) (t : ℕ) → target_of (mark_all (walk_by sizes body 0) blank) (length body) spot ≡ Ok t → Standing sizes body t
   target_stands spot t e =
       ⊎_elim (λ w. inr w) (λ w. inl (mark_stands t w.0 w.1)) (legal (mark_all (walk_by sizes body 0) blank) (length body) spot t e)
 

@@ -1,15 +1,13 @@
 -- What stands at an offset of a body, its operands, where control goes from there, and which targets are legal. `sizes` gives each
 -- opcode's size, 0 where it is unassigned; 01's is `size_of`.
 -- Assumes nothing.
-use Rattle.std.specs.Prelude.{ℕ, ◌+◌, ◌-◌, ◌*◌, cond, List, ltb, leb, eqb, length, get_or, take, drop}
+use Rattle.std.specs.Prelude.{ℕ, ◌+◌, ◌-◌, ◌*◌, cond, List, ltb, leb, eqb, length, get_or, take, drop, Ok, Err, Result}
 use Rattle.flow.specs.declared.Step.{Step}
 use Rattle.flow.specs.declared.Step.TheVariants.{End, Unknown, Truncated, Instruction}
 use Rattle.flow.specs.declared.Flow.{Flow}
 use Rattle.flow.specs.declared.Flow.TheVariants.{Next, Jump, Branch, Return}
 use Rattle.flow.specs.declared.Spot.{Spot}
 use Rattle.flow.specs.declared.Spot.TheVariants.{At, Before}
-use Rattle.flow.specs.declared.Target.{Target}
-use Rattle.flow.specs.declared.Target.TheVariants.{Legal, Illegal}
 
 -- the step at a byte op, with n bytes from it to the body's end
 abbrev pub step_op : (ℕ → ℕ) → ℕ → ℕ → Step
@@ -48,11 +46,15 @@ moved next word =
     (cond (leb (65536 - word) next) (At (next - (65536 - word)))
     (Before (65536 - word - next))))
 
+-- a branch's target, or the place that is none
+abbrev pub Target : Type 0
+Target = Result ℕ Spot
+
 -- a target is legal if it is the body length or an instruction start; marks hold a size at each start and 0 elsewhere
 unfoldable pub target_of : List ℕ → ℕ → Spot → Target
-target_of marks end (Before n) = Illegal (Before n)
+target_of marks end (Before n) = Err (Before n)
 target_of marks end (At to) =
-    cond (eqb to end) (Legal to)
-    (cond (ltb end to) (Illegal (At to))
-    (cond (eqb (get_or marks to 0) 0) (Illegal (At to))
-    (Legal to)))
+    cond (eqb to end) (Ok to)
+    (cond (ltb end to) (Err (At to))
+    (cond (eqb (get_or marks to 0) 0) (Err (At to))
+    (Ok to)))

@@ -1,12 +1,15 @@
 -- The instructions of a body in decoded order. Decoding starts at 0 and stops at the first unassigned byte or cut instruction.
 -- Assumes nothing.
-use Rattle.std.specs.Prelude.{ℕ, zero, suc, ◌+◌, Bool, true, false, cond, List, eqb, length, set}
+use Rattle.flow.specs.declared.starts.Stop.{Stop}
+use Rattle.std.specs.Prelude.{ℕ, zero, suc, ◌+◌, Bool, true, false, cond, List, eqb, length, set, Ok, Err, Result}
 use Rattle.cells.specs.Zeros.{zeros}
 use Rattle.flow.specs.Decode.{step_by}
 use Rattle.flow.specs.declared.Step.{Step}
 use Rattle.flow.specs.declared.Step.TheVariants.{End, Unknown, Truncated, Instruction}
-use Rattle.flow.specs.declared.starts.Decoded.{Decoded}
-use Rattle.flow.specs.declared.starts.Decoded.TheVariants as D
+
+-- how decoding ends: at the body's end, or at the first unassigned byte or cut instruction
+abbrev pub Decoded : Type 0
+Decoded = Result (Unit {0}) Stop
 
 pub data Walk : Type 0 where
   -- the offset where decoding stops, and how
@@ -15,13 +18,13 @@ pub data Walk : Type 0 where
   instr : ℕ → ℕ → ℕ → Walk → Walk
 
 abbrev pub on_step : ℕ → (ℕ → Walk) → Step → Walk
-on_step at rest End = stops at D.Whole
-on_step at rest (Unknown byte) = stops at (D.Unknown at byte)
-on_step at rest (Truncated op) = stops at (D.Truncated at op)
+on_step at rest End = stops at (Ok tt)
+on_step at rest (Unknown byte) = stops at (Err (Stop.Unknown at byte))
+on_step at rest (Truncated op) = stops at (Err (Stop.Truncated at op))
 on_step at rest (Instruction op size) = instr at op size (rest (at + size))
 
 abbrev pub walk_in : ℕ → (ℕ → ℕ) → List ℕ → ℕ → Walk
-walk_in zero sizes body at = stops at D.Whole
+walk_in zero sizes body at = stops at (Ok tt)
 walk_in (suc left) sizes body at = on_step at (walk_in left sizes body) (step_by sizes body at)
 
 -- from an offset on; each instruction has a byte at least, so there are no more of them than bytes

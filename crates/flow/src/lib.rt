@@ -3,12 +3,12 @@
 
 pub mod starts;
 
-ghost use Rattle.std.specs.Prelude.{◌≡◌, ◌+◌, ◌*◌};
+ghost use Rattle.std.specs.Prelude.{◌≡◌};
 ghost use Rattle.tables.specs.Packed.{size_in};
 ghost use Rattle.flow.specs.Decode.{step_by, operands_at, word_at, flow_of, moved, target_of};
 
 // What stands at an offset of a body.
-#[derive(Drop)]
+#[derive(Clone, Copy, PartialEq, Eq, Debug)]
 pub enum Step {
     // The body's end, or past it.
     End,
@@ -21,7 +21,7 @@ pub enum Step {
 }
 
 // Where control goes. A branch carries its offset as the word that stands in the code.
-#[derive(Drop)]
+#[derive(Clone, Copy, PartialEq, Eq, Debug)]
 pub enum Flow {
     Next,
     Jump(u16),
@@ -30,22 +30,10 @@ pub enum Flow {
 }
 
 // A place counted from the body's start: so many bytes after it, or before it.
-#[derive(Drop)]
+#[derive(Clone, Copy, PartialEq, Eq, Debug)]
 pub enum Spot {
     At(usize),
     Before(usize),
-}
-
-#[derive(Drop)]
-pub enum Target {
-    Legal(usize),
-    Illegal(Spot),
-}
-
-fn wide(x: u8) -> usize
-    ensures { result ≡ x }
-{
-    x as usize
 }
 
 // The decoding step, in plain form.
@@ -60,7 +48,7 @@ pub fn decode_step(sizes: &[u8; 256], body: &[u8], at: usize) -> Step
     if size == 0 {
         return Step::Unknown(op);
     }
-    if wide(size) <= body.len() - at {
+    if usize::from(size) <= body.len() - at {
         Step::Instruction(op, size)
     } else {
         Step::Truncated(op)
@@ -77,13 +65,7 @@ pub fn operands_of(body: &[u8], at: usize, size: u8) -> &[u8]
     if size == 0 {
         return cells::part(body, at, 0);
     }
-    cells::part(body, at + 1, wide(size) - 1)
-}
-
-fn word(low: u8, high: u8) -> u16
-    ensures { result ≡ low + high * 256 }
-{
-    low as u16 + high as u16 * 256
+    cells::part(body, at + 1, usize::from(size) - 1)
 }
 
 // Two bytes, low byte first.
@@ -93,7 +75,7 @@ pub fn word_at(operands: &[u8], i: usize) -> u16
     if operands.len() <= i {
         return 0;
     }
-    word(operands[i], cells::at(operands, i + 1))
+    u16::from(operands[i]) + u16::from(cells::at(operands, i + 1)) * 256
 }
 
 // The function that CALL and METHOD_CALL name, the type that FB_CALL names, and the built-in that BUILTIN names.
@@ -150,24 +132,24 @@ pub fn move_by(next: usize, word: u16) -> Spot
     }
 }
 
-// A branch's target: legal if it is the body's length or an instruction's start below it.
-pub fn branch_target(marks: &[u8], length: usize, next: usize, word: u16) -> Target
+// A branch's target: legal if it is the body's length or an instruction's start below it; else the place that is none.
+pub fn branch_target(marks: &[u8], length: usize, next: usize, word: u16) -> Result<usize, Spot>
     ensures { result ≡ target_of marks.now length (moved next word) }
 {
     let spot = move_by(next, word);
     match spot {
-        Spot::Before(_) => Target::Illegal(spot),
+        Spot::Before(_) => Err(spot),
         Spot::At(to) => {
             if to == length {
-                return Target::Legal(to);
+                return Ok(to);
             }
             if length < to {
-                return Target::Illegal(spot);
+                return Err(spot);
             }
             if cells::at(marks, to) == 0 {
-                Target::Illegal(spot)
+                Err(spot)
             } else {
-                Target::Legal(to)
+                Ok(to)
             }
         }
     }

@@ -4,14 +4,13 @@ ghost use Rattle.tables.specs.Packed.{size_in};
 ghost use Rattle.flow.specs.Walk.{walk_by, end_of, mark_all, has_ret};
 ghost use Rattle.flow.specs.Marked.{Marked, Skipped};
 
-use crate::{Step, decode_step, wide};
+use crate::{Step, decode_step};
 
-// How a body's decoding ends: at its end, or at an offset with the byte there.
-#[derive(Drop)]
-pub enum Decoded {
-    Whole,
-    Unknown(usize, u8),
-    Truncated(usize, u8),
+// A decoding stop before a body's end: at an unassigned byte, or at a cut instruction.
+#[derive(Clone, Copy, PartialEq, Eq, Debug)]
+pub enum Stop {
+    Unknown { offset: usize, byte: u8 },
+    Truncated { offset: usize, opcode: u8 },
 }
 
 // Marks a stretch of instructions of one byte, and answers where it ends: most instructions have one byte, and a loop of their own waits
@@ -20,19 +19,17 @@ fn mark_ones(marks: &mut [u8], sizes: &[u8; 256], body: &[u8], from: usize) -> u
     requires { from ≤ length body.now }
     ensures { Marked (size_in sizes.now) body.now from marks.old result marks.new }
 {
-    let mut at = from;
-    while at < body.len() {
+    for at in from..body.len() {
         if tables::size_in(sizes, body[at]) != 1 {
             return at;
         }
         cells::put(marks, at, 1);
-        at += 1;
     }
-    at
+    body.len()
 }
 
 // Marks each instruction's first byte with the instruction's size, up to the first decoding stop.
-pub fn mark_starts(marks: &mut [u8], sizes: &[u8; 256], body: &[u8]) -> Decoded
+pub fn mark_starts(marks: &mut [u8], sizes: &[u8; 256], body: &[u8]) -> Result<(), Stop>
     ensures { (result ≡ end_of (walk_by (size_in sizes.now) body.now 0)) × (marks.new ≡ mark_all (walk_by (size_in sizes.now) body.now 0) marks.old) }
 {
     let mut at: usize = 0;
@@ -42,14 +39,17 @@ pub fn mark_starts(marks: &mut [u8], sizes: &[u8; 256], body: &[u8]) -> Decoded
         match step {
             Step::Instruction(_, size) => {
                 cells::put(marks, from, size);
-                at = from + wide(size);
+                at = from + usize::from(size);
             }
-            Step::Unknown(byte) => return Decoded::Unknown(from, byte),
-            Step::Truncated(op) => return Decoded::Truncated(from, op),
-            Step::End => return Decoded::Whole,
+            Step::Unknown(byte) => return Err(Stop::Unknown { offset: from, byte }),
+            Step::Truncated(opcode) => return Err(Stop::Truncated {
+                offset: from,
+                opcode,
+            }),
+            Step::End => return Ok(()),
         }
     }
-    Decoded::Whole
+    Ok(())
 }
 
 // Past a stretch of instructions of one byte other than RET.
@@ -57,18 +57,13 @@ fn skip_ones(sizes: &[u8; 256], body: &[u8], from: usize) -> usize
     requires { from ≤ length body.now }
     ensures { Skipped (size_in sizes.now) body.now from result }
 {
-    let mut at = from;
-    while at < body.len() {
+    for at in from..body.len() {
         let op = body[at];
-        if op == 0x88 {
+        if op == tables::RET || tables::size_in(sizes, op) != 1 {
             return at;
         }
-        if tables::size_in(sizes, op) != 1 {
-            return at;
-        }
-        at += 1;
     }
-    at
+    body.len()
 }
 
 // Whether RET is among the instructions before the first decoding stop.
@@ -81,10 +76,10 @@ pub fn has_ret(sizes: &[u8; 256], body: &[u8]) -> bool
         let step = decode_step(sizes, body, from);
         match step {
             Step::Instruction(op, size) => {
-                if op == 0x88 {
+                if op == tables::RET {
                     return true;
                 }
-                at = from + wide(size);
+                at = from + usize::from(size);
             }
             Step::Unknown(_) => return false,
             Step::Truncated(_) => return false,

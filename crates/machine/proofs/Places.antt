@@ -1,6 +1,7 @@
 -- Where a frame can stand: in a body that decodes to its end, offset 0 and wherever an instruction goes on to is a start of an instruction or the
 -- body's end, so that something decodes there, with its mark for its size. By flow's laws on starts, taken at a body's own marks.
 -- Assumes nothing.
+use Rattle.std.specs.Prelude.{Ok}
 use Prim.Native.Nat.{ℕ, ◌+◌, ◌<◌}
 use native.Mathlib.Omega.{arith}
 use mathlib.Core.Path.{◌≡◌, refl, sym, ap, subst, ◌∙◌}
@@ -9,14 +10,12 @@ use mathlib.Core.List.{List}
 use mathlib.Core.Logic.{◌⊎◌, inl, inr, ⊎_elim}
 use lib.ListN.{length, get_or}
 use Rattle.cells.specs.Zeros.{zeros, length_zeros, any_zero}
-use Rattle.flow.specs.declared.starts.Decoded.{Decoded}
 use Rattle.flow.specs.declared.Step.TheVariants.{End, Instruction}
 use Rattle.flow.specs.declared.Flow.{Flow}
 use Rattle.flow.specs.declared.Flow.TheVariants.{Next, Jump, Branch, Return}
 use Rattle.flow.specs.declared.Spot.{Spot}
-use Rattle.flow.specs.declared.Target.TheVariants.{Legal}
 use Rattle.flow.specs.Decode.{step_by, moved, target_of}
-use Rattle.flow.specs.Walk.{walk_by, end_of, is_start, marks_of}
+use Rattle.flow.specs.Walk.{walk_by, end_of, is_start, marks_of, Decoded}
 use Rattle.flow.proofs.Laws.{Stands, stands, step_end}
 use Rattle.flow.proofs.StartLaws.{marked, Begins, begins}
 use Rattle.flow.proofs.Next.{Standing, next_stands, target_stands, marks_are}
@@ -49,12 +48,12 @@ module _ (sizes : ℕ → ℕ) (body : List ℕ) where
   decodes_at t (inl w) = inl (begins sizes body 0 t w)
   decodes_at t (inr w) = inr (step_end sizes body t (omega arith))
 
-  target_at : (spot : Spot) (t : ℕ) → target_of (marks_of sizes body) (length body) spot ≡ Legal t → Standing sizes body t
+  target_at : (spot : Spot) (t : ℕ) → target_of (marks_of sizes body) (length body) spot ≡ Ok t → Standing sizes body t
   target_at spot t e =
       let l = length_zeros (zeros (length body)) (length body) refl in
       target_stands sizes body (zeros (length body)) (omega arith) (any_zero (zeros (length body)) (length body) refl) spot t (rw (marks_are sizes body) at e)
 
-  module _ (whole : end_of (walk_by sizes body 0) ≡ Decoded.Whole) (t op size : ℕ) (p : Place t op size) where
+  module _ (whole : end_of (walk_by sizes body 0) ≡ (Ok tt)) (t op size : ℕ) (p : Place t op size) where
     next_at : Standing sizes body (t + size)
     next_at =
         let z : sizes (get_or body t 0) ≡ size = sym (mark_is t p.inside p.starts) ∙ sym p.is_size in

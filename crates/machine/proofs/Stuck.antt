@@ -3,6 +3,7 @@
 -- Assumes nothing.
 --     step_or_stuck    a step, or one of 01's reasons
 --     stuck_stays      and no step where there is a reason
+use Rattle.std.specs.Prelude.{Ok, Err}
 use Prim.Native.Nat.{ℕ, ◌+◌}
 use native.Mathlib.Omega.{arith}
 use mathlib.Core.Path.{◌≡◌, refl, sym, ap, ◌∙◌}
@@ -15,9 +16,7 @@ use Rattle.flow.specs.declared.Step.TheVariants.{End, Unknown, Truncated, Instru
 use Rattle.flow.specs.declared.Flow.{Flow}
 use Rattle.flow.specs.declared.Flow.TheVariants.{Next, Jump, Branch, Return}
 use Rattle.flow.specs.declared.Spot.{Spot}
-use Rattle.flow.specs.declared.Target.{Target}
-use Rattle.flow.specs.declared.Target.TheVariants.{Legal, Illegal}
-use Rattle.flow.specs.Decode.{moved, target_of}
+use Rattle.flow.specs.Decode.{moved, target_of, Target}
 use Rattle.flow.specs.Walk.{marks_of}
 use Rattle.program.specs.Program.{PoolProgram}
 use Rattle.rules.specs.declared.Known.{Known}
@@ -43,13 +42,13 @@ module _ (q : PoolProgram) (fr : Frame) (below : List Frame) where
     flows (Jump word) e = by (target_of marks end (moved next word)) refl
       where
         by : (t : Target) → target_of marks end (moved next word) ≡ t → Either
-        by (Legal to) g = inl (_, goes x to (rw e g))
-        by (Illegal spot) g = inr (no_target x word spot (inl e) g)
+        by (Ok to) g = inl (_, goes x to (rw e g))
+        by (Err spot) g = inr (no_target x word spot (inl e) g)
     flows (Branch word) e = by (target_of marks end (moved next word)) refl
       where
         by : (t : Target) → target_of marks end (moved next word) ≡ t → Either
-        by (Legal to) g = inl (_, goes x to (rw e (to, g, inl refl)))
-        by (Illegal spot) g = inr (no_target x word spot (inr e) g)
+        by (Ok to) g = inl (_, goes x to (rw e (to, g, inl refl)))
+        by (Err spot) g = inr (no_target x word spot (inr e) g)
     flows Return e = inl (below, returns x e)
 
   knows : (opcode size : ℕ) → decoded_at q fr ≡ Instruction opcode size → (k : Known) → known_of move_of q.program opcode (operands_in q fr size) ≡ k → Either
@@ -83,13 +82,13 @@ known_not q fr x opcode size k e g =
     sym g ∙ rw (z.0, z.1) x.known
 
 onward_not : (marks : List ℕ) (end next : ℕ) (flow : Flow) (word : ℕ) (spot : Spot) (to : ℕ) → (flow ≡ Jump word) ⊎ (flow ≡ Branch word)
-    → target_of marks end (moved next word) ≡ Illegal spot → Onward marks end next flow to → ⊥
+    → target_of marks end (moved next word) ≡ Err spot → Onward marks end next flow to → ⊥
 onward_not marks end next flow word spot to (inl e) g w =
-    let t : target_of marks end (moved next word) ≡ Legal to = rw e at w in
+    let t : target_of marks end (moved next word) ≡ Ok to = rw e at w in
     let z : ◌≡◌ {A = ℕ} 0 1 = cc in
     omega arith
 onward_not marks end next flow word spot to (inr e) g w =
-    let t : (target : ℕ) × (target_of marks end (moved next word) ≡ Legal target) × ((target ≡ to) ⊎ (next ≡ to)) = rw e at w in
+    let t : (target : ℕ) × (target_of marks end (moved next word) ≡ Ok target) × ((target ≡ to) ⊎ (next ≡ to)) = rw e at w in
     let u = t.1 in
     let z : ◌≡◌ {A = ℕ} 0 1 = cc in
     omega arith
@@ -114,7 +113,7 @@ module _ (q : PoolProgram) (fr : Frame) where
   acting (no_target x word spot f g) y w =
       let s = same x y in
       let f' : (flow_at q fr y ≡ Jump word) ⊎ (flow_at q fr y ≡ Branch word) = ⊎_elim (λ e. inl (s.0 ∙ e)) (λ e. inr (s.0 ∙ e)) f in
-      let g' : target_of (marks_of size_of (body_in q fr)) (length (body_in q fr)) (moved (fr.offset + y.size) word) ≡ Illegal spot =
+      let g' : target_of (marks_of size_of (body_in q fr)) (length (body_in q fr)) (moved (fr.offset + y.size) word) ≡ Err spot =
       ap (λ (n : ℕ). target_of (marks_of size_of (body_in q fr)) (length (body_in q fr)) (moved (fr.offset + n) word)) s.1 ∙ g in
       ⊎_elim (λ o. onward_not (marks_of size_of (body_in q fr)) (length (body_in q fr)) (fr.offset + y.size) (flow_at q fr y) word spot o.0 f' g' o.1)
       (λ r. turns_not (flow_at q fr y) word f' r) w

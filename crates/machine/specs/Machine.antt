@@ -9,7 +9,7 @@
 --     Stuck       where there is none
 --     Run         no or more steps, from an entry's frame
 --     live        the buffers of the open frames
-use Rattle.std.specs.Prelude.{ℕ, zero, suc, ◌+◌, ◌-◌, ◌≡◌, ◌⊎◌, List, [], ◌∷◌, length}
+use Rattle.std.specs.Prelude.{ℕ, zero, suc, ◌+◌, ◌-◌, ◌≡◌, ◌⊎◌, List, [], ◌∷◌, length, Ok, Err}
 use Rattle.tables.specs.declared.Effect.{Effect}
 use Rattle.tables.specs.Set.{size_of, move_of}
 use Rattle.flow.specs.declared.Step as decoding
@@ -17,7 +17,6 @@ use Rattle.flow.specs.declared.Step.TheVariants.{End, Unknown, Truncated, Instru
 use Rattle.flow.specs.declared.Flow.{Flow}
 use Rattle.flow.specs.declared.Flow.TheVariants.{Next, Jump, Branch, Return}
 use Rattle.flow.specs.declared.Spot.{Spot}
-use Rattle.flow.specs.declared.Target.TheVariants.{Legal, Illegal}
 use Rattle.flow.specs.Decode.{step_by, operands_at, flow_of, moved, target_of}
 use Rattle.flow.specs.Walk.{marks_of}
 use Rattle.program.specs.Program.{PoolProgram, body_of}
@@ -65,8 +64,8 @@ depth_after e depth = depth - e.takes + e.leaves
 -- "JMP_IF_NOT and CMP_BR go either way"; there is no way where "a target is illegal", and RET and RET_VOID do not go on
 abbrev pub Onward : List ℕ → ℕ → ℕ → Flow → ℕ → Type 0
 Onward marks end next Next to = next ≡ to
-Onward marks end next (Jump word) to = target_of marks end (moved next word) ≡ Legal to
-Onward marks end next (Branch word) to = (target : ℕ) × (target_of marks end (moved next word) ≡ Legal target) × ((target ≡ to) ⊎ (next ≡ to))
+Onward marks end next (Jump word) to = target_of marks end (moved next word) ≡ Ok to
+Onward marks end next (Branch word) to = (target : ℕ) × (target_of marks end (moved next word) ≡ Ok target) × ((target ≡ to) ⊎ (next ≡ to))
 Onward marks end next Return to = ⊥
 
 abbrev pub flow_at : (q : PoolProgram) (fr : Frame) → Acts q fr → Flow
@@ -100,7 +99,7 @@ pub data Stuck (q : PoolProgram) (fr : Frame) : Type 0 where
   no_builtin : (opcode size id : ℕ) → decoded_at q fr ≡ Instruction opcode size → known_of move_of q.program opcode (operands_in q fr size) ≡ Known.UnknownBuiltin id → Stuck q fr
   no_callee : (opcode size id : ℕ) → decoded_at q fr ≡ Instruction opcode size → known_of move_of q.program opcode (operands_in q fr size) ≡ Known.UnknownCallee id → Stuck q fr
   no_target : (x : Acts q fr) (word : ℕ) (spot : Spot) → (flow_at q fr x ≡ Jump word) ⊎ (flow_at q fr x ≡ Branch word)
-      → target_of (marks_of size_of (body_in q fr)) (length (body_in q fr)) (moved (fr.offset + x.size) word) ≡ Illegal spot → Stuck q fr
+      → target_of (marks_of size_of (body_in q fr)) (length (body_in q fr)) (moved (fr.offset + x.size) word) ≡ Err spot → Stuck q fr
 
 -- from some frames on
 pub data Steps (q : PoolProgram) (first : List Frame) : List Frame → Type 0 where

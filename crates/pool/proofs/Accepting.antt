@@ -2,6 +2,8 @@
 -- calls repeat a function or weigh more than the pool. The directory row by row (Directory.antt), each body by its walk's own theorems (Ending.antt),
 -- and the chains by the visit's theorem, whose entries are exactly the rows of the entries that are in the directory.
 -- Assumes nothing. The pool is a u16, so at most 65,535, of which the definition over any numbers knows nothing: it is said as a hypothesis.
+use Rattle.std.specs.Prelude.{Ok, Some}
+use Rattle.codes.specs.First.{Place}
 use Prim.Native.Nat.{ℕ, ◌≤◌, ◌<◌}
 use native.Mathlib.Omega.{arith}
 use mathlib.Core.Path.{◌≡◌, refl, sym, subst, ap, ◌∙◌}
@@ -9,13 +11,11 @@ use mathlib.Core.Logic.{◌↔◌, inl, inr, ⊎_elim}
 use mathlib.Core.List.{List, [], ◌∷◌}
 use lib.ListN.{length, get_or}
 use Rattle.tables.specs.Set.{size_of}
-use Rattle.codes.specs.declared.Place.{Place}
 use Rattle.codes.specs.Lookup.{place_of}
 use Rattle.codes.specs.LookupLaws.{place_in}
-use Rattle.program.specs.declared.Input.{Input}
 use Rattle.program.specs.declared.Room.{Room}
 use Rattle.program.specs.Program.{PoolProgram, body_of}
-use Rattle.program.specs.Refusals.{pool_input}
+use Rattle.program.specs.Refusals.{pool_input, Input}
 use Rattle.program.proofs.Taken.{pool_taken}
 use Rattle.buffers.specs.Walk.{undecodable, crowded, used_of}
 use Rattle.callees.specs.Callees.{temps_of, opens_of}
@@ -41,8 +41,8 @@ Judged (Verdict.RecursiveCallGraph function) = Unit {0}
 Judged (Verdict.Undecodable function) = Unit {0}
 Judged (Verdict.QueueFull function) = Unit {0}
 
-taken_by : (input : Input) (rest v : Verdict) → Judged v → on_input input rest ≡ v → (input ≡ Input.Taken) × (rest ≡ v)
-taken_by Input.Taken rest v j e = (refl, e)
+taken_by : (input : Input) (rest v : Verdict) → Judged v → on_input input rest ≡ v → (input ≡ Ok tt) × (rest ≡ v)
+taken_by (Ok _) rest v j e = (refl, e)
 taken_by Input.TooMany rest v j e = absurd (subst Judged (sym e) j)
 taken_by Input.ScratchShort rest v j e = absurd (subst Judged (sym e) j)
 taken_by (Input.ListFault k) rest v j e = absurd (subst Judged (sym e) j)
@@ -50,20 +50,20 @@ taken_by (Input.IdRepeated k) rest v j e = absurd (subst Judged (sym e) j)
 taken_by (Input.BodyOutside k) rest v j e = absurd (subst Judged (sym e) j)
 taken_by Input.PoolTooLarge rest v j e = absurd (subst Judged (sym e) j)
 
-pub pool_below : (q : PoolProgram) (room : Room) (cells : ℕ) → q.pool ≤ 65535 → pool_input q room cells ≡ Input.Taken → q.pool < 65535
+pub pool_below : (q : PoolProgram) (room : Room) (cells : ℕ) → q.pool ≤ 65535 → pool_input q room cells ≡ Ok tt → q.pool < 65535
 pool_below q room cells small e = by q.pool small (pool_taken q room cells e).pool_limit
   where
     by : (pool : ℕ) → pool ≤ 65535 → (pool ≡ 65535 → ⊥) → pool < 65535
     by pool l n = omega arith
 
 -- ---- the entries
-pub among_entered : (ids entries : List ℕ) (f : ℕ) → Among f (entries_of ids entries) → f < 128 → (e : ℕ) × Among e entries × (place_of ids e ≡ Place.Row f)
+pub among_entered : (ids entries : List ℕ) (f : ℕ) → Among f (entries_of ids entries) → f < 128 → (e : ℕ) × Among e entries × (place_of ids e ≡ Some f)
 unfolding entries_of
 among_entered ids [] f i h = absurd i
 among_entered ids (x ∷ entries) f i h =
     ⊎_elim (λ z. (x, inl refl, known_row (place_of ids x) f z h)) (λ j. let r = among_entered ids entries f j h in (r.0, inr r.1, r.2)) i
 
-pub entered_among : (ids entries : List ℕ) (f e : ℕ) → Among e entries → place_of ids e ≡ Place.Row f → Among f (entries_of ids entries)
+pub entered_among : (ids entries : List ℕ) (f e : ℕ) → Among e entries → place_of ids e ≡ Some f → Among f (entries_of ids entries)
 unfolding entries_of
 entered_among ids [] f e i p = i
 entered_among ids (x ∷ entries) f e i p =
@@ -117,18 +117,18 @@ module _ (q : PoolProgram) where
 
   module _ (room : Room) (cells : ℕ) where
     -- an answer that is no refusal
-    pub answers : (v : Verdict) → Judged v → pool_answer q room cells ≡ v → (pool_input q room cells ≡ Input.Taken) × Answers v
+    pub answers : (v : Verdict) → Judged v → pool_answer q room cells ≡ v → (pool_input q room cells ≡ Ok tt) × Answers v
     unfolding pool_answer
     answers v j e =
         let t = taken_by (pool_input q room cells) (taken_answer q) v j e in
         (t.0, subst Answers t.1 taken_answers)
 
-    pub taken_visit : pool_input q room cells ≡ Input.Taken → ((row : ℕ) → row < function_count q → WalkEnds q row) → pool_answer q room cells ≡ visit_answer
+    pub taken_visit : pool_input q room cells ≡ Ok tt → ((row : ℕ) → row < function_count q → WalkEnds q row) → pool_answer q room cells ≡ visit_answer
     unfolding pool_answer
     taken_visit t w = ap (λ (i : Input). on_input i (taken_answer q)) t ∙ walks_visit w
 
     -- up to a row whose walk did not end, the answer is what that row says
-    pub first_answer : pool_input q room cells ≡ Input.Taken → (row : ℕ) → row < function_count q → ((j : ℕ) → j < row → WalkEnds q j) → (v : Verdict)
+    pub first_answer : pool_input q room cells ≡ Ok tt → (row : ℕ) → row < function_count q → ((j : ℕ) → j < row → WalkEnds q j) → (v : Verdict)
         → ((after : Verdict) → on_used (get_or ids row 0) (used_of (walk_at q row)) after ≡ v) → pool_answer q room cells ≡ v
     unfolding pool_answer program_answer
     first_answer t row h on v e =
@@ -136,11 +136,11 @@ module _ (q : PoolProgram) where
         ∙ up_to (walk_at q) ids visit_answer (length ids) 0 row v (omega arith) (omega arith) (λ j l k. walks_ended j (on j k)) e
 
     -- an entry's row is below 128
-    pub entered_known : pool_input q room cells ≡ Input.Taken → (f : ℕ) → Entered q f → f < 128
+    pub entered_known : pool_input q room cells ≡ Ok tt → (f : ℕ) → Entered q f → f < 128
     entered_known t f i = let l = place_in ids i.0 f i.2 in omega (arith, (pool_taken q room cells t).stack.functions_limit)
 
     module _ (small : q.pool ≤ 65535) where
-      sound_by : (v : Verdict) → Answers v → v ≡ Verdict.Accepted → pool_input q room cells ≡ Input.Taken → PoolSound q room cells
+      sound_by : (v : Verdict) → Answers v → v ≡ Verdict.Accepted → pool_input q room cells ≡ Ok tt → PoolSound q room cells
       sound_by _ (visits w) e t = record {
         taken = t;
         walks = w;

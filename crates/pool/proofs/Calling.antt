@@ -1,6 +1,7 @@
 -- The whole call: what the code reads out of its tables and columns on an input that is taken is 01's, the visit over the filled cells is the visit of
 -- the definition's graph, and what the answer leaves of the scratch.
 -- Assumes nothing.
+use Rattle.std.specs.Prelude.{Ok}
 use Prim.Native.Nat.{ℕ, zero, suc, ◌+◌, ◌*◌, ◌≤◌, ◌<◌}
 use native.Mathlib.Omega.{arith}
 use native.Mathlib.Decide.{dec_lt}
@@ -19,13 +20,11 @@ use Rattle.tables.specs.Set.{size_of, move_of, temp_of}
 use Rattle.tables.specs.Packed.{size_in, move_in, temp_in, size_table, word_table}
 use Rattle.tables.specs.Stored.{size_stored, move_stored, temp_stored}
 use Rattle.flow.proofs.Laws.{walk_end}
-use Rattle.flow.specs.declared.starts.Decoded.{Decoded}
-use Rattle.flow.specs.Walk.{end_of, marks_of}
+use Rattle.flow.specs.Walk.{end_of, marks_of, Decoded}
 use Rattle.codes.specs.Lookup.{place_of, hinted_of}
-use Rattle.program.specs.declared.Input.{Input}
 use Rattle.program.specs.declared.Room.{Room}
 use Rattle.program.specs.Program.{Program, PoolProgram, body_of, body_is}
-use Rattle.program.specs.Refusals.{is_taken, room_of, pool_input}
+use Rattle.program.specs.Refusals.{is_taken, room_of, pool_input, Input}
 use Rattle.program.specs.Seat.{seat_of}
 use Rattle.program.specs.Laws.{seat_place}
 use Rattle.program.specs.Taken.{StackTaken, PoolTaken, taken_is}
@@ -213,7 +212,7 @@ pool_below q room k t h = below q.pool t.pool_limit h
     below n d l = ⊎_elim (λ e. absurd (d e)) (λ h. h) (eq-or-lt_of_le l)
 
 not_taken : (input : Input) (rest : Verdict) → is_taken input ≡ false → Verdict.Refused input ≡ on_input input rest
-not_taken Input.Taken rest e = absurd (true≢false e)
+not_taken (Ok _) rest e = absurd (true≢false e)
 not_taken Input.TooMany rest e = refl
 not_taken Input.ScratchShort rest e = refl
 not_taken (Input.ListFault k) rest e = refl

@@ -1,14 +1,15 @@
 -- How the walk of a body ends, at any sizes and rules: with numbers exactly if decoding comes to its end and the walk does; with 22 if decoding stops or
 -- the walk finds 22; with 23 if it finds 23. It never runs out of turns, by the walk's own theorem, since each mark fits its body.
 -- Assumes nothing.
+use Rattle.std.specs.Prelude.{Ok, Err}
+use Rattle.flow.specs.declared.starts.Stop.{Stop}
 use Prim.Native.Nat.{ℕ, ◌+◌, ◌*◌}
 use native.Mathlib.Omega.{arith}
 use mathlib.Core.Path.{◌≡◌, refl, ap, ◌∙◌}
 use mathlib.Core.Logic.{◌⊎◌, inl, inr}
 use mathlib.Core.List.{List}
 use lib.ListN.{length}
-use Rattle.flow.specs.declared.starts.Decoded.{Decoded}
-use Rattle.flow.specs.Walk.{walk_by, end_of, marks_of}
+use Rattle.flow.specs.Walk.{walk_by, end_of, marks_of, Decoded}
 use Rattle.flow.proofs.Next.{body_fits}
 use Rattle.buffers.specs.declared.Used.{Used}
 use Rattle.buffers.specs.Tread.{Temps, Opens, tread_of}
@@ -17,25 +18,25 @@ use Rattle.buffers.proofs.Theorems.{turns_suffice}
 use Rattle.pool.specs.Pool.{on_decoded, body_walk}
 
 -- decoding, then the walk
-decoded_walked : (d : Decoded) (w : Walked) (numbers : List ℕ) (u : Usage) → on_decoded d w ≡ walked numbers u → (d ≡ Decoded.Whole) × (w ≡ walked numbers u)
-decoded_walked Decoded.Whole w numbers u e = (refl, e)
-decoded_walked (Decoded.Unknown o b) w numbers u e = absurd (let z : ◌≡◌ {A = ℕ} 0 1 = cc in omega arith)
-decoded_walked (Decoded.Truncated o b) w numbers u e = absurd (let z : ◌≡◌ {A = ℕ} 0 1 = cc in omega arith)
+decoded_walked : (d : Decoded) (w : Walked) (numbers : List ℕ) (u : Usage) → on_decoded d w ≡ walked numbers u → (d ≡ (Ok tt)) × (w ≡ walked numbers u)
+decoded_walked (Ok _) w numbers u e = (refl, e)
+decoded_walked (Err (Stop.Unknown o b)) w numbers u e = absurd (let z : ◌≡◌ {A = ℕ} 0 1 = cc in omega arith)
+decoded_walked (Err (Stop.Truncated o b)) w numbers u e = absurd (let z : ◌≡◌ {A = ℕ} 0 1 = cc in omega arith)
 
-decoded_crowded : (d : Decoded) (w : Walked) → on_decoded d w ≡ crowded → (d ≡ Decoded.Whole) × (w ≡ crowded)
-decoded_crowded Decoded.Whole w e = (refl, e)
-decoded_crowded (Decoded.Unknown o b) w e = absurd (let z : ◌≡◌ {A = ℕ} 0 1 = cc in omega arith)
-decoded_crowded (Decoded.Truncated o b) w e = absurd (let z : ◌≡◌ {A = ℕ} 0 1 = cc in omega arith)
+decoded_crowded : (d : Decoded) (w : Walked) → on_decoded d w ≡ crowded → (d ≡ (Ok tt)) × (w ≡ crowded)
+decoded_crowded (Ok _) w e = (refl, e)
+decoded_crowded (Err (Stop.Unknown o b)) w e = absurd (let z : ◌≡◌ {A = ℕ} 0 1 = cc in omega arith)
+decoded_crowded (Err (Stop.Truncated o b)) w e = absurd (let z : ◌≡◌ {A = ℕ} 0 1 = cc in omega arith)
 
 decoded_unfinished : (d : Decoded) (w : Walked) → on_decoded d w ≡ unfinished → w ≡ unfinished
-decoded_unfinished Decoded.Whole w e = e
-decoded_unfinished (Decoded.Unknown o b) w e = absurd (let z : ◌≡◌ {A = ℕ} 0 1 = cc in omega arith)
-decoded_unfinished (Decoded.Truncated o b) w e = absurd (let z : ◌≡◌ {A = ℕ} 0 1 = cc in omega arith)
+decoded_unfinished (Ok _) w e = e
+decoded_unfinished (Err (Stop.Unknown o b)) w e = absurd (let z : ◌≡◌ {A = ℕ} 0 1 = cc in omega arith)
+decoded_unfinished (Err (Stop.Truncated o b)) w e = absurd (let z : ◌≡◌ {A = ℕ} 0 1 = cc in omega arith)
 
-decoded_undecodable : (d : Decoded) (w : Walked) → on_decoded d w ≡ undecodable → (d ≡ Decoded.Whole → ⊥) ⊎ ((d ≡ Decoded.Whole) × (w ≡ undecodable))
-decoded_undecodable Decoded.Whole w e = inr (refl, e)
-decoded_undecodable (Decoded.Unknown o b) w e = inl (λ x. let z : ◌≡◌ {A = ℕ} 0 1 = cc in omega arith)
-decoded_undecodable (Decoded.Truncated o b) w e = inl (λ x. let z : ◌≡◌ {A = ℕ} 0 1 = cc in omega arith)
+decoded_undecodable : (d : Decoded) (w : Walked) → on_decoded d w ≡ undecodable → (d ≡ (Ok tt) → ⊥) ⊎ ((d ≡ (Ok tt)) × (w ≡ undecodable))
+decoded_undecodable (Ok _) w e = inr (refl, e)
+decoded_undecodable (Err (Stop.Unknown o b)) w e = inl (λ x. let z : ◌≡◌ {A = ℕ} 0 1 = cc in omega arith)
+decoded_undecodable (Err (Stop.Truncated o b)) w e = inl (λ x. let z : ◌≡◌ {A = ℕ} 0 1 = cc in omega arith)
 
 module _ (sizes : ℕ → ℕ) (temps : Temps) (opens : Opens) (pool : ℕ) (body : List ℕ) where
   -- the walk alone
@@ -43,20 +44,20 @@ module _ (sizes : ℕ → ℕ) (temps : Temps) (opens : Opens) (pool : ℕ) (bod
   alone = walk_of (tread_of temps opens (marks_of sizes body) body pool) (2 * length body + 2) pool (length body + 1)
 
   pub body_walked : (numbers : List ℕ) (u : Usage) → body_walk sizes temps opens pool body ≡ walked numbers u
-      → (end_of (walk_by sizes body 0) ≡ Decoded.Whole) × (alone ≡ walked numbers u)
+      → (end_of (walk_by sizes body 0) ≡ (Ok tt)) × (alone ≡ walked numbers u)
   unfolding body_walk
   body_walked numbers u e = decoded_walked (end_of (walk_by sizes body 0)) alone numbers u e
 
-  pub body_crowded : body_walk sizes temps opens pool body ≡ crowded → (end_of (walk_by sizes body 0) ≡ Decoded.Whole) × (alone ≡ crowded)
+  pub body_crowded : body_walk sizes temps opens pool body ≡ crowded → (end_of (walk_by sizes body 0) ≡ (Ok tt)) × (alone ≡ crowded)
   unfolding body_walk
   body_crowded e = decoded_crowded (end_of (walk_by sizes body 0)) alone e
 
-  pub crowded_body : end_of (walk_by sizes body 0) ≡ Decoded.Whole → alone ≡ crowded → body_walk sizes temps opens pool body ≡ crowded
+  pub crowded_body : end_of (walk_by sizes body 0) ≡ (Ok tt) → alone ≡ crowded → body_walk sizes temps opens pool body ≡ crowded
   unfolding body_walk
   crowded_body d e = ap (λ (o : Decoded). on_decoded o alone) d ∙ e
 
   pub body_undecodable : body_walk sizes temps opens pool body ≡ undecodable
-      → (end_of (walk_by sizes body 0) ≡ Decoded.Whole → ⊥) ⊎ ((end_of (walk_by sizes body 0) ≡ Decoded.Whole) × (alone ≡ undecodable))
+      → (end_of (walk_by sizes body 0) ≡ (Ok tt) → ⊥) ⊎ ((end_of (walk_by sizes body 0) ≡ (Ok tt)) × (alone ≡ undecodable))
   unfolding body_walk
   body_undecodable e = decoded_undecodable (end_of (walk_by sizes body 0)) alone e
 

@@ -6,6 +6,7 @@
 --     names_cycle          21: a function that an entry reaches and that reaches itself
 --     names_undecodable    22: the first function whose decoding stops, or whose walk comes to an illegal target
 --     names_queue_full     23: the first function whose walk would hold more entries at once than there is room for
+use Rattle.std.specs.Prelude.{Ok}
 use Prim.Native.Nat.{ℕ, ◌+◌, ◌*◌, ◌≤◌, ◌<◌}
 use native.Mathlib.Omega.{arith}
 use mathlib.Core.Path.{◌≡◌, refl, sym, ap, ◌∙◌}
@@ -16,10 +17,9 @@ use Rattle.tables.specs.Set.{size_of}
 use Rattle.flow.specs.Walk.{marks_of}
 use Rattle.flow.proofs.Next.{body_fits}
 use Rattle.codes.specs.LookupLaws.{place_row, place_in, place_has}
-use Rattle.program.specs.declared.Input.{Input}
 use Rattle.program.specs.declared.Room.{Room}
 use Rattle.program.specs.Program.{PoolProgram, body_of}
-use Rattle.program.specs.Refusals.{pool_input}
+use Rattle.program.specs.Refusals.{pool_input, Input}
 use Rattle.program.specs.Laws.{distinct}
 use Rattle.program.proofs.Taken.{pool_taken}
 use Rattle.buffers.specs.Walk.{undecodable, crowded, used_of}
@@ -55,19 +55,19 @@ module _ (q : PoolProgram) where
 
   module _ (room : Room) (cells : ℕ) where
     -- ids are distinct, so a row's id names it
-    named : pool_input q room cells ≡ Input.Taken → (row : ℕ) → row < function_count q → Named q (get_or ids row 0) row
+    named : pool_input q room cells ≡ Ok tt → (row : ℕ) → row < function_count q → Named q (get_or ids row 0) row
     named t row h =
         place_row ids (get_or ids row 0) row h refl (λ j l e. distinct ids (pool_taken q room cells t).stack.ids_distinct j row l h e)
 
     pub names_undecodable : (function : ℕ)
-        → (pool_answer q room cells ≡ Verdict.Undecodable function) ↔ ((pool_input q room cells ≡ Input.Taken) × FirstRow q (Undecodable q) function)
+        → (pool_answer q room cells ≡ Verdict.Undecodable function) ↔ ((pool_input q room cells ≡ Ok tt) × FirstRow q (Undecodable q) function)
     names_undecodable function = (
       λ e. let a = answers q room cells (Verdict.Undecodable function) tt e in (a.0, by (Verdict.Undecodable function) a.1 refl a.0),
       λ s. first_answer q room cells s.0 s.1.row (place_in ids function s.1.row s.1.named) s.1.earlier (Verdict.Undecodable function)
           (λ after. rw (ap used_of s.1.holds.0) (ap Verdict.Undecodable (place_has ids function s.1.row s.1.named))),
     )
       where
-        by : (v : Verdict) → Answers q v → v ≡ Verdict.Undecodable function → pool_input q room cells ≡ Input.Taken → FirstRow q (Undecodable q) function
+        by : (v : Verdict) → Answers q v → v ≡ Verdict.Undecodable function → pool_input q room cells ≡ Ok tt → FirstRow q (Undecodable q) function
         by _ (visits w) e t = absurd (never (visited q) e)
           where
             never : (v : Visited) → on_visited ids (λ f. peak_of (walk_at q f)) q.pool v ≡ Verdict.Undecodable function → ⊥
@@ -80,14 +80,14 @@ module _ (q : PoolProgram) where
         by _ (crowds row h on w) e t = absurd (let z : ◌≡◌ {A = ℕ} 0 1 = cc in omega arith)
 
     pub names_queue_full : (function : ℕ)
-        → (pool_answer q room cells ≡ Verdict.QueueFull function) ↔ ((pool_input q room cells ≡ Input.Taken) × FirstRow q (Crowds q) function)
+        → (pool_answer q room cells ≡ Verdict.QueueFull function) ↔ ((pool_input q room cells ≡ Ok tt) × FirstRow q (Crowds q) function)
     names_queue_full function = (
       λ e. let a = answers q room cells (Verdict.QueueFull function) tt e in (a.0, by (Verdict.QueueFull function) a.1 refl a.0),
       λ s. first_answer q room cells s.0 s.1.row (place_in ids function s.1.row s.1.named) s.1.earlier (Verdict.QueueFull function)
           (λ after. rw (ap used_of ((row_crowds s.1.row).1 s.1.holds)) (ap Verdict.QueueFull (place_has ids function s.1.row s.1.named))),
     )
       where
-        by : (v : Verdict) → Answers q v → v ≡ Verdict.QueueFull function → pool_input q room cells ≡ Input.Taken → FirstRow q (Crowds q) function
+        by : (v : Verdict) → Answers q v → v ≡ Verdict.QueueFull function → pool_input q room cells ≡ Ok tt → FirstRow q (Crowds q) function
         by _ (visits w) e t = absurd (never (visited q) e)
           where
             never : (v : Visited) → on_visited ids (λ f. peak_of (walk_at q f)) q.pool v ≡ Verdict.QueueFull function → ⊥
@@ -104,7 +104,7 @@ module _ (q : PoolProgram) where
         let a = answers q room cells (Verdict.RecursiveCallGraph function) tt e in
         by (Verdict.RecursiveCallGraph function) a.1 refl a.0
       where
-        by : (v : Verdict) → Answers q v → v ≡ Verdict.RecursiveCallGraph function → pool_input q room cells ≡ Input.Taken → Recurs q function
+        by : (v : Verdict) → Answers q v → v ≡ Verdict.RecursiveCallGraph function → pool_input q room cells ≡ Ok tt → Recurs q function
         by _ (visits w) e t = cycle (visited q) refl e
           where
             cycle : (v : Visited) → visited q ≡ v → on_visited ids (λ f. peak_of (walk_at q f)) q.pool v ≡ Verdict.RecursiveCallGraph function → Recurs q function
@@ -132,7 +132,7 @@ module _ (q : PoolProgram) where
         let a = answers q room cells (Verdict.ExceedsDeclaredPool function offset depth declared) tt e in
         by (Verdict.ExceedsDeclaredPool function offset depth declared) a.1 refl a.0
       where
-        by : (v : Verdict) → Answers q v → v ≡ Verdict.ExceedsDeclaredPool function offset depth declared → pool_input q room cells ≡ Input.Taken
+        by : (v : Verdict) → Answers q v → v ≡ Verdict.ExceedsDeclaredPool function offset depth declared → pool_input q room cells ≡ Ok tt
             → Overruns q function offset depth declared
         by _ (visits w) e t = over (visited q) refl e
           where

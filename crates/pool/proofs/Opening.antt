@@ -1,6 +1,8 @@
 -- No call leads out of the directory: a callee's cell is 0, or the row of its id and 1; the callees of a walk are cells that it opened, by its own
 -- theorem; so every function that an entry reaches has a row. By cases on the instruction, and by induction on the calls.
 -- Assumes nothing.
+use Rattle.std.specs.Prelude.{Some, None}
+use Rattle.codes.specs.First.{Place}
 use Prim.Native.Nat.{ℕ, suc, ◌+◌, ◌-◌, ◌*◌, ◌≤◌, ◌<◌}
 use native.Mathlib.Omega.{arith}
 use mathlib.Core.Path.{◌≡◌, refl}
@@ -13,7 +15,6 @@ use borrow.Author.Tests.{lt-ltb}
 use Rattle.tables.specs.Set.{size_of, move_of}
 use Rattle.flow.specs.Walk.{marks_of}
 use Rattle.flow.proofs.Next.{body_fits}
-use Rattle.codes.specs.declared.Place.{Place}
 use Rattle.codes.specs.Lookup.{place_of}
 use Rattle.codes.specs.LookupLaws.{place_in}
 use Rattle.program.specs.Program.{PoolProgram, body_of}
@@ -30,19 +31,19 @@ use Rattle.pool.proofs.Ending.{body_walked}
 
 -- ---- cells
 -- a cell is 0, or the row of the id and 1
-pub cell_is : (ids : List ℕ) (id : ℕ) → (cell_at (place_of ids id) ≡ 0) ⊎ ((row : ℕ) × (row < length ids) × (place_of ids id ≡ Place.Row row) × (cell_at (place_of ids id) ≡ suc row))
+pub cell_is : (ids : List ℕ) (id : ℕ) → (cell_at (place_of ids id) ≡ 0) ⊎ ((row : ℕ) × (row < length ids) × (place_of ids id ≡ Some row) × (cell_at (place_of ids id) ≡ suc row))
 cell_is ids id = by (place_of ids id) refl
   where
     cell : (row : ℕ) (b : Bool) → (cond b (row + 1) 0 ≡ 0) ⊎ (cond b (row + 1) 0 ≡ suc row)
     cell row true = inr (omega arith)
     cell row false = inl refl
 
-    by : (p : Place) → place_of ids id ≡ p → (cell_at p ≡ 0) ⊎ ((row : ℕ) × (row < length ids) × (p ≡ Place.Row row) × (cell_at p ≡ suc row))
-    by (Place.Row row) e = ⊎_elim (λ z. inl z) (λ z. inr (row, place_in ids id row e, refl, z)) (cell row (ltb row 128))
-    by Place.Nowhere e = inl refl
+    by : (p : Place) → place_of ids id ≡ p → (cell_at p ≡ 0) ⊎ ((row : ℕ) × (row < length ids) × (p ≡ Some row) × (cell_at p ≡ suc row))
+    by (Some row) e = ⊎_elim (λ z. inl z) (λ z. inr (row, place_in ids id row e, refl, z)) (cell row (ltb row 128))
+    by None e = inl refl
 
 -- in a directory of at most 128 functions every row has its cell
-pub row_cell : (ids : List ℕ) (id row : ℕ) → length ids ≤ 128 → place_of ids id ≡ Place.Row row → cell_at (place_of ids id) ≡ suc row
+pub row_cell : (ids : List ℕ) (id row : ℕ) → length ids ≤ 128 → place_of ids id ≡ Some row → cell_at (place_of ids id) ≡ suc row
 row_cell ids id row few e =
     let l = place_in ids id row e in
     let z : row + 1 ≡ suc row = omega arith in

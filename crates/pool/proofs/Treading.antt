@@ -1,5 +1,6 @@
 -- One tread of the code is the definition's, by the cases of buffers: an instruction that is plain, and any other.
 -- Assumes nothing.
+use Rattle.codes.specs.First.{Place}
 use Prim.Native.Nat.{ℕ, ◌+◌, ◌-◌, ◌<◌}
 use mathlib.Core.Path.{◌≡◌, refl, ◌∙◌, ap, sym}
 use mathlib.Core.Bool.{true}
@@ -12,10 +13,8 @@ use Rattle.tables.specs.Packed.{move_in, temp_in, plain_in, effect_in}
 use Rattle.tables.specs.Stored.{plain_fixed}
 use Rattle.flow.specs.declared.Flow.{Flow}
 use Rattle.flow.specs.declared.Flow.TheVariants.{Next, Jump, Branch, Return}
-use Rattle.flow.specs.declared.Target.{Target}
-use Rattle.flow.specs.Decode.{operands_at, flow_of, moved, target_of}
+use Rattle.flow.specs.Decode.{operands_at, flow_of, moved, target_of, Target}
 use Rattle.flow.proofs.Next.{flow_next}
-use Rattle.codes.specs.declared.Place.{Place}
 use Rattle.buffers.specs.declared.Way.{Way}
 use Rattle.buffers.specs.Tread.{Temps, Opens, sum_past, on_target, flowing, bounded, treads, tread_of}
 use Rattle.buffers.proofs.Cases.{flowing_next, flowing_return, tread_acts, tread_bounded, tread_opens}

@@ -11,16 +11,14 @@
 --     Overruns          20: a function that an entry reaches, and its heaviest chain of calls, which passes the pool
 --     Recurs            21: a function that an entry reaches, and that reaches itself
 --     FirstRow          22 and 23: the first function in directory order whose walk strays, or holds too much at once
-use Rattle.std.specs.Prelude.{ℕ, suc, ◌+◌, ◌*◌, ◌≤◌, ◌<◌, min, ◌≡◌, List, ◌⊎◌, ◌↔◌, length, get_or}
+use Rattle.codes.specs.First.{Place}
+use Rattle.std.specs.Prelude.{ℕ, suc, ◌+◌, ◌*◌, ◌≤◌, ◌<◌, min, ◌≡◌, List, ◌⊎◌, ◌↔◌, length, get_or, Ok, Some}
 use Rattle.tables.specs.Set.{size_of}
-use Rattle.flow.specs.declared.starts.Decoded.{Decoded}
-use Rattle.flow.specs.Walk.{walk_by, end_of, marks_of}
-use Rattle.codes.specs.declared.Place.{Place}
+use Rattle.flow.specs.Walk.{walk_by, end_of, marks_of, Decoded}
 use Rattle.codes.specs.Lookup.{place_of}
-use Rattle.program.specs.declared.Input.{Input}
 use Rattle.program.specs.declared.Room.{Room}
 use Rattle.program.specs.Program.{PoolProgram, body_of}
-use Rattle.program.specs.Refusals.{pool_input}
+use Rattle.program.specs.Refusals.{pool_input, Input}
 use Rattle.buffers.specs.declared.Tread.{Tread}
 use Rattle.buffers.specs.declared.Way.{Way}
 use Rattle.buffers.specs.Tread.{tread_of}
@@ -39,7 +37,7 @@ function_count q = length q.program.functions.ids
 
 -- the function with an id stands at a row: the first with it, and the only one in an input that is not refused
 abbrev pub Named : PoolProgram → ℕ → ℕ → Type 0
-Named q function row = place_of q.program.functions.ids function ≡ Place.Row row
+Named q function row = place_of q.program.functions.ids function ≡ Some row
 
 -- 01's rules of the temp buffers in the body at a row, at any pool and at the program's
 abbrev pub rule_under : PoolProgram → ℕ → ℕ → ℕ → ℕ → Tread
@@ -50,7 +48,7 @@ rule_at q = rule_under q q.pool
 
 -- decoding comes to the body's end
 abbrev pub Decodes : PoolProgram → ℕ → Type 0
-Decodes q row = end_of (walk_by size_of (body_of q.program row) 0) ≡ Decoded.Whole
+Decodes q row = end_of (walk_by size_of (body_of q.program row) 0) ≡ (Ok tt)
 
 -- "decoded and walked": and so does the walk, with numbers and with what it found
 pub record WalkEnds (q : PoolProgram) (row : ℕ) : Type 0 where
@@ -80,7 +78,7 @@ pub record Finds (q : PoolProgram) (row : ℕ) (w : WalkEnds q row) : Type 0 whe
 
 -- the row of an entry that is in the directory
 abbrev pub Entered : PoolProgram → ℕ → Type 0
-Entered q f = (e : ℕ) × Among e q.entries × (place_of q.program.functions.ids e ≡ Place.Row f)
+Entered q f = (e : ℕ) × Among e q.entries × (place_of q.program.functions.ids e ≡ Some f)
 
 abbrev pub Reached : PoolProgram → ℕ → Type 0
 Reached q row = (f : ℕ) × Entered q f × Reaches (call_graph q) f row
@@ -88,7 +86,7 @@ Reached q row = (f : ℕ) × Entered q f × Reaches (call_graph q) f row
 -- the input is not refused, no walk gives 22 or 23, and from no entry that is in the directory does a chain of calls repeat a function or weigh more
 -- than the pool
 pub record PoolSound (q : PoolProgram) (room : Room) (cells : ℕ) : Type 0 where
-  pub taken : pool_input q room cells ≡ Input.Taken
+  pub taken : pool_input q room cells ≡ Ok tt
   pub walks : (row : ℕ) → row < function_count q → WalkEnds q row
   pub chains : (f : ℕ) → Entered q f → Tame (call_graph q) q.pool f
 

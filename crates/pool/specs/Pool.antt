@@ -1,15 +1,14 @@
 -- The pool check: each function in directory order decoded and walked, then for each entry the depth-first visit.
 -- Assumes nothing.
-use Rattle.std.specs.Prelude.{ℕ, zero, suc, ◌+◌, ◌-◌, ◌*◌, cond, List, [], ◌∷◌, ltb, length, get_or}
+use Rattle.flow.specs.declared.starts.Stop.{Stop}
+use Rattle.std.specs.Prelude.{ℕ, zero, suc, ◌+◌, ◌-◌, ◌*◌, cond, List, [], ◌∷◌, ltb, length, get_or, Ok, Err}
 use Rattle.cells.specs.Zeros.{zeros}
 use Rattle.tables.specs.Set.{size_of}
-use Rattle.flow.specs.declared.starts.Decoded.{Decoded}
-use Rattle.flow.specs.Walk.{walk_by, end_of, marks_of}
+use Rattle.flow.specs.Walk.{walk_by, end_of, marks_of, Decoded}
 use Rattle.codes.specs.Lookup.{place_of}
-use Rattle.program.specs.declared.Input.{Input}
 use Rattle.program.specs.declared.Room.{Room}
 use Rattle.program.specs.Program.{PoolProgram, body_of}
-use Rattle.program.specs.Refusals.{pool_input}
+use Rattle.program.specs.Refusals.{pool_input, Input}
 use Rattle.buffers.specs.declared.Used.{Used}
 use Rattle.buffers.specs.Tread.{Temps, Opens, tread_of}
 use Rattle.buffers.specs.Walk.{Walked, undecodable, crowded, unfinished, walked, walk_of, used_of, callees_of}
@@ -24,9 +23,9 @@ use Rattle.pool.specs.declared.Verdict.{Verdict}
 
 -- "Undecodable: decoding stops"
 abbrev pub on_decoded : Decoded → Walked → Walked
-on_decoded Decoded.Whole w = w
-on_decoded (Decoded.Unknown offset byte) w = undecodable
-on_decoded (Decoded.Truncated offset opcode) w = undecodable
+on_decoded (Ok _) w = w
+on_decoded (Err (Stop.Unknown offset byte)) w = undecodable
+on_decoded (Err (Stop.Truncated offset opcode)) w = undecodable
 
 -- "decoded and walked from offset 0 with 0 buffers"; QueueFull where a walk would hold "more than 2 x body length + 2 entries at once"
 unfoldable pub body_walk : (ℕ → ℕ) → Temps → Opens → ℕ → List ℕ → Walked
@@ -87,7 +86,7 @@ abbrev pub walk_at : PoolProgram → ℕ → Walked
 walk_at q row = body_walk size_of (temps_of q) (opens_of q) q.pool (body_of q.program row)
 
 abbrev pub on_input : Input → Verdict → Verdict
-on_input Input.Taken rest = rest
+on_input (Ok _) rest = rest
 on_input Input.TooMany rest = Verdict.Refused Input.TooMany
 on_input Input.ScratchShort rest = Verdict.Refused Input.ScratchShort
 on_input (Input.ListFault k) rest = Verdict.Refused (Input.ListFault k)

@@ -1,13 +1,12 @@
 -- What refusal 33 means: it decides exactly which bodies are within the code. The laws of the other refusals are in specs/Laws.antt.
 -- Assumes nothing.
-use Rattle.std.specs.Prelude.{ℕ, ◌+◌, ◌-◌, ◌≤◌, ◌<◌, ◌≡◌, true, false, List, ltb, length}
+use Rattle.std.specs.Prelude.{ℕ, ◌+◌, ◌-◌, ◌≤◌, ◌<◌, ◌≡◌, true, false, List, ltb, length, Some, None}
 use native.Mathlib.Omega.{arith}
 use Rattle.std.proofs.Math.Logic.{⊎_elim}
 use Rattle.std.proofs.Math.ListN.{get_or}
 use borrow.Author.Tests.{ltb-true, ltb-false, lt-ltb, le-ltb}
 use Rattle.codes.specs.First.{row_means, nowhere_means, nowhere_if}
 use Rattle.codes.specs.Laws.{or_true, or_false, or_right}
-use Rattle.codes.specs.declared.Place.TheVariants.{Row, Nowhere}
 use Rattle.program.specs.Refusals.{outside, outside_of}
 
 module _ (offsets lengths : List ℕ) (code : ℕ) where
@@ -41,16 +40,16 @@ module _ (offsets lengths : List ℕ) (code : ℕ) where
       (or_true (ltb code (get_or offsets k 0)) (ltb (code - get_or offsets k 0) (get_or lengths k 0)) e)
 
   -- no body is outside exactly where each ends within the code
-  pub inside_means : outside_of offsets lengths code ≡ Nowhere → (k : ℕ) → k < length offsets → get_or offsets k 0 + get_or lengths k 0 ≤ code
+  pub inside_means : outside_of offsets lengths code ≡ None → (k : ℕ) → k < length offsets → get_or offsets k 0 + get_or lengths k 0 ≤ code
   unfolding outside_of
   inside_means e k h = row_inside k ((nowhere_means (outside offsets lengths code) (length offsets) e).passed k h)
 
-  pub inside_if : ((k : ℕ) → k < length offsets → get_or offsets k 0 + get_or lengths k 0 ≤ code) → outside_of offsets lengths code ≡ Nowhere
+  pub inside_if : ((k : ℕ) → k < length offsets → get_or offsets k 0 + get_or lengths k 0 ≤ code) → outside_of offsets lengths code ≡ None
   unfolding outside_of
   inside_if n = nowhere_if _ _ (record { passed = λ k h. inside_row k (let a = n k h in omega arith) (let a = n k h in omega arith) })
 
   -- the first body that ends past the code
-  pub outside_means : (k : ℕ) → outside_of offsets lengths code ≡ Row k
+  pub outside_means : (k : ℕ) → outside_of offsets lengths code ≡ Some k
       → (k < length offsets) × ((code < get_or offsets k 0 + get_or lengths k 0) × ((j : ℕ) → j < k → get_or offsets j 0 + get_or lengths j 0 ≤ code))
   unfolding outside_of
   outside_means k e =

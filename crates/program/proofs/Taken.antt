@@ -1,6 +1,7 @@
 -- The order of the refusals, and that the calls take exactly the inputs of specs/Taken.antt.
 -- Assumes nothing.
-use Rattle.std.specs.Prelude.{ℕ, ◌+◌, ◌*◌, refl, Bool, true, cond, ◌||◌, [], ◌∷◌, eqb}
+use Rattle.codes.specs.First.{Place}
+use Rattle.std.specs.Prelude.{ℕ, ◌+◌, ◌*◌, refl, Bool, true, cond, ◌||◌, [], ◌∷◌, eqb, Ok, Err, Some, None}
 use native.Mathlib.Omega.{arith}
 use Rattle.std.proofs.Math.Path.{◌≡◌}
 use Rattle.std.proofs.Common.{◌∙◌}
@@ -8,20 +9,15 @@ use Rattle.std.proofs.Math.Bool.{false}
 use Rattle.std.proofs.Math.Dec.{ltb}
 use Rattle.std.proofs.Math.ListN.{length}
 use borrow.Author.Tests.{ltb-false, le-ltb, eqb-false, eq-eqb, ne_eqb}
-use Rattle.codes.specs.Rows.{rows_of}
+use Rattle.codes.specs.Rows.{rows_of, Order}
 use Rattle.codes.specs.Laws.{or_false}
-use Rattle.codes.specs.declared.Order.{Order}
-use Rattle.codes.specs.declared.Order.TheVariants.{Rises, Fault}
-use Rattle.codes.specs.declared.Place.{Place}
-use Rattle.codes.specs.declared.Place.TheVariants.{Row, Nowhere}
 use Rattle.program.specs.Program.{Functions, CodeList, Program, PoolProgram}
-use Rattle.program.specs.Refusals.{table_refused, functions_refused, list_refused, too_many, lengths_of, pool_too_many, scratch_short, repeated_of, outside_of, on_list, on_repeated, on_outside, directory_of, contents_of, on_pool, input_of, stack_input, pool_input}
+use Rattle.program.specs.Refusals.{table_refused, functions_refused, list_refused, too_many, lengths_of, pool_too_many, scratch_short, repeated_of, outside_of, on_list, on_repeated, on_outside, directory_of, contents_of, on_pool, input_of, stack_input, pool_input, Input}
 use Rattle.program.specs.Laws.{table_means}
 use Rattle.program.proofs.Laws.{inside_means, inside_if}
 use Rattle.program.specs.Taken.{StackTaken, PoolTaken}
 use Rattle.program.specs.declared.Room.{Room}
-use Rattle.program.specs.declared.Input.{Input}
-use Rattle.program.specs.declared.Input.TheVariants.{Taken, TooMany, ScratchShort, PoolTooLarge}
+use Rattle.program.specs.declared.Refusal.TheVariants.{TooMany, ScratchShort, PoolTooLarge}
 
 -- the order of the refusals
 module _ (p : Program) (room : Room) (many short : Bool) (rest : Input) where
@@ -49,36 +45,36 @@ module _ (p : Program) (room : Room) (many short : Bool) (rest : Input) where
   input_rest e m s t = rw (e, m, s, t)
 
 -- a refusal that was passed over
-past : (b : Bool) (refusal rest : Input) → (refusal ≡ Taken → ⊥) → cond b refusal rest ≡ Taken → (b ≡ false) × (rest ≡ Taken)
+past : (b : Bool) (refusal rest : Input) → (refusal ≡ Ok tt → ⊥) → cond b refusal rest ≡ Ok tt → (b ≡ false) × (rest ≡ Ok tt)
 past true refusal rest n e = absurd (n e)
 past false refusal rest n e = (refl, e)
 
-not_many : TooMany ≡ Taken → ⊥
+not_many : TooMany ≡ Ok tt → ⊥
 not_many e = let z : ◌≡◌ {A = ℕ} 0 1 = cc in omega arith
 
-not_short : ScratchShort ≡ Taken → ⊥
+not_short : ScratchShort ≡ Ok tt → ⊥
 not_short e = let z : ◌≡◌ {A = ℕ} 0 1 = cc in omega arith
 
-past_list : (o : Order) (rest : Input) → on_list o rest ≡ Taken → (o ≡ Rises) × (rest ≡ Taken)
-past_list (Fault k) rest e = absurd (let z : ◌≡◌ {A = ℕ} 0 1 = cc in omega arith)
-past_list Rises rest e = (refl, e)
+past_list : (o : Order) (rest : Input) → on_list o rest ≡ Ok tt → (o ≡ Ok tt) × (rest ≡ Ok tt)
+past_list (Err k) rest e = absurd (let z : ◌≡◌ {A = ℕ} 0 1 = cc in omega arith)
+past_list (Ok _) rest e = (refl, e)
 
-past_repeated : (o : Place) (rest : Input) → on_repeated o rest ≡ Taken → (o ≡ Nowhere) × (rest ≡ Taken)
-past_repeated (Row k) rest e = absurd (let z : ◌≡◌ {A = ℕ} 0 1 = cc in omega arith)
-past_repeated Nowhere rest e = (refl, e)
+past_repeated : (o : Place) (rest : Input) → on_repeated o rest ≡ Ok tt → (o ≡ None) × (rest ≡ Ok tt)
+past_repeated (Some k) rest e = absurd (let z : ◌≡◌ {A = ℕ} 0 1 = cc in omega arith)
+past_repeated None rest e = (refl, e)
 
-past_outside : (o : Place) (rest : Input) → on_outside o rest ≡ Taken → (o ≡ Nowhere) × (rest ≡ Taken)
-past_outside (Row k) rest e = absurd (let z : ◌≡◌ {A = ℕ} 0 1 = cc in omega arith)
-past_outside Nowhere rest e = (refl, e)
+past_outside : (o : Place) (rest : Input) → on_outside o rest ≡ Ok tt → (o ≡ None) × (rest ≡ Ok tt)
+past_outside (Some k) rest e = absurd (let z : ◌≡◌ {A = ℕ} 0 1 = cc in omega arith)
+past_outside None rest e = (refl, e)
 
 -- what is left after 34, 32 and 33
 record Contents (list : CodeList) (f : Functions) (code : ℕ) (rest : Input) : Type 0 where
-  rises : rows_of list.ids list.flags ≡ Rises
-  single : repeated_of f.ids ≡ Nowhere
-  within : outside_of f.offsets f.lengths code ≡ Nowhere
-  left : rest ≡ Taken
+  rises : rows_of list.ids list.flags ≡ Ok tt
+  single : repeated_of f.ids ≡ None
+  within : outside_of f.offsets f.lengths code ≡ None
+  left : rest ≡ Ok tt
 
-contents_past : (list : CodeList) (f : Functions) (code : ℕ) (rest : Input) → contents_of list f code rest ≡ Taken → Contents list f code rest
+contents_past : (list : CodeList) (f : Functions) (code : ℕ) (rest : Input) → contents_of list f code rest ≡ Ok tt → Contents list f code rest
 unfolding contents_of directory_of
 contents_past list f code rest e =
     let a = past_list (rows_of list.ids list.flags) (directory_of f.ids f.offsets f.lengths code rest) e in
@@ -86,7 +82,7 @@ contents_past list f code rest e =
     let d = past_outside (outside_of f.offsets f.lengths code) rest b.1 in
     record { rises = a.0; single = b.0; within = d.0; left = d.1 }
 
-contents_taken : (list : CodeList) (f : Functions) (code : ℕ) (rest : Input) → Contents list f code rest → contents_of list f code rest ≡ Taken
+contents_taken : (list : CodeList) (f : Functions) (code : ℕ) (rest : Input) → Contents list f code rest → contents_of list f code rest ≡ Ok tt
 unfolding contents_of directory_of
 contents_taken list f code rest k = rw (k.rises, k.single, k.within) k.left
 
@@ -99,7 +95,7 @@ record Parts (p : Program) (room : Room) (many short : Bool) (rest : Input) : Ty
   sound : Contents p.list p.functions (length p.code) rest
 
 module _ (p : Program) (room : Room) (many short : Bool) (rest : Input) where
-  input_parts : input_of p room many short rest ≡ Taken → Parts p room many short rest
+  input_parts : input_of p room many short rest ≡ Ok tt → Parts p room many short rest
   unfolding input_of
   input_parts e =
       let a = past (too_many (lengths_of p) || many) TooMany _ not_many e in
@@ -108,7 +104,7 @@ module _ (p : Program) (room : Room) (many short : Bool) (rest : Input) where
       let f = or_false (scratch_short (length p.code) room) short b.0 in
       record { few = d.0; few_more = d.1; roomy = f.0; roomy_more = f.1; sound = contents_past _ _ _ _ b.1 }
 
-  parts_input : Parts p room many short rest → input_of p room many short rest ≡ Taken
+  parts_input : Parts p room many short rest → input_of p room many short rest ≡ Ok tt
   parts_input k = input_rest p room many short rest k.few k.few_more k.roomy k.roomy_more ∙ contents_taken _ _ _ _ k.sound
 
   parts_taken : Parts p room many short rest → StackTaken p room
@@ -144,11 +140,11 @@ module _ (p : Program) (room : Room) (many short : Bool) (rest : Input) where
       }
 
 module _ (p : Program) (room : Room) where
-  pub stack_taken : stack_input p room ≡ Taken → StackTaken p room
+  pub stack_taken : stack_input p room ≡ Ok tt → StackTaken p room
   unfolding stack_input
-  stack_taken e = parts_taken p room false false Taken (input_parts p room false false Taken e)
+  stack_taken e = parts_taken p room false false (Ok tt) (input_parts p room false false (Ok tt) e)
 
-  taken_parts : StackTaken p room → Parts p room false false Taken
+  taken_parts : StackTaken p room → Parts p room false false Ok tt
   unfolding too_many table_refused scratch_short
   taken_parts t =
       let n = lengths_of p in
@@ -185,27 +181,27 @@ module _ (p : Program) (room : Room) where
       }
 
   -- the stack call takes exactly such an input
-  pub taken_stack : StackTaken p room → stack_input p room ≡ Taken
+  pub taken_stack : StackTaken p room → stack_input p room ≡ Ok tt
   unfolding stack_input
-  taken_stack t = parts_input p room false false Taken (taken_parts t)
+  taken_stack t = parts_input p room false false (Ok tt) (taken_parts t)
 
 -- by how many descriptors and entries the pool call is refused
 abbrev pool_many : PoolProgram → Bool
 pool_many q = pool_too_many (length q.descriptors.types) (length q.descriptors.callees) (length q.entries)
 
 module _ (q : PoolProgram) (room : Room) (cells : ℕ) where
-  pool_parts : pool_input q room cells ≡ Taken → Parts q.program room (pool_many q) (ltb cells 16384) (on_pool q.pool)
+  pool_parts : pool_input q room cells ≡ Ok tt → Parts q.program room (pool_many q) (ltb cells 16384) (on_pool q.pool)
   unfolding pool_input
   pool_parts e = input_parts q.program room (pool_many q) (ltb cells 16384) (on_pool q.pool) e
 
-  pool_small : (n : ℕ) → on_pool n ≡ Taken → n ≡ 65535 → ⊥
+  pool_small : (n : ℕ) → on_pool n ≡ Ok tt → n ≡ 65535 → ⊥
   unfolding on_pool
-  pool_small n e = eqb-false n 65535 (past (eqb n 65535) PoolTooLarge Taken not_large e).0
+  pool_small n e = eqb-false n 65535 (past (eqb n 65535) PoolTooLarge (Ok tt) not_large e).0
     where
-      not_large : PoolTooLarge ≡ Taken → ⊥
+      not_large : PoolTooLarge ≡ Ok tt → ⊥
       not_large w = let z : ◌≡◌ {A = ℕ} 0 1 = cc in omega arith
 
-  pub pool_taken : pool_input q room cells ≡ Taken → PoolTaken q room cells
+  pub pool_taken : pool_input q room cells ≡ Ok tt → PoolTaken q room cells
   unfolding pool_too_many
   pool_taken e =
       let k = pool_parts e in
@@ -223,7 +219,7 @@ module _ (q : PoolProgram) (room : Room) (cells : ℕ) where
       }
 
   -- the pool call takes exactly such an input
-  pub taken_pool : PoolTaken q room cells → pool_input q room cells ≡ Taken
+  pub taken_pool : PoolTaken q room cells → pool_input q room cells ≡ Ok tt
   unfolding pool_input pool_too_many table_refused on_pool
   taken_pool t =
       let k = taken_parts q.program room t.stack in
@@ -248,5 +244,5 @@ module _ (q : PoolProgram) (room : Room) (cells : ℕ) where
       })
 
   -- what the pool call takes, the stack call takes
-  pub pool_stack : pool_input q room cells ≡ Taken → stack_input q.program room ≡ Taken
+  pub pool_stack : pool_input q room cells ≡ Ok tt → stack_input q.program room ≡ Ok tt
   pool_stack e = taken_stack q.program room (pool_taken e).stack

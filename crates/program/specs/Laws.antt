@@ -1,6 +1,6 @@
 -- What the refusals mean: each part decides exactly; that of the bodies: proofs/Laws.antt.
 -- Assumes nothing.
-use Rattle.std.specs.Prelude.{ℕ, zero, suc, ◌≤◌, ◌<◌, ◌≡◌, Bool, true, false, cond, ◌&&◌, List, [], ◌∷◌, ltb, eqb, length}
+use Rattle.std.specs.Prelude.{ℕ, zero, suc, ◌≤◌, ◌<◌, ◌≡◌, Bool, true, false, cond, ◌&&◌, List, [], ◌∷◌, ltb, eqb, length, Ok, Some, None}
 use Rattle.std.proofs.Common.{suc-le-suc, zero-le, eq-or-lt_of_le, not-suc-le-zero, le_of_suc-le-suc, ◌∙◌, ap, sym}
 use native.Mathlib.Omega.{arith}
 use Rattle.std.proofs.Math.Path.{refl}
@@ -13,8 +13,6 @@ use Rattle.codes.specs.Rows.{rows_of}
 use Rattle.codes.specs.Laws.{or_true, or_false, or_right, rising_order}
 use Rattle.codes.specs.Lookup.{has_id, place_of}
 use Rattle.codes.specs.LookupLaws.{place_row}
-use Rattle.codes.specs.declared.Order.TheVariants.{Rises}
-use Rattle.codes.specs.declared.Place.TheVariants.{Row, Nowhere}
 use Rattle.program.specs.Refusals.{differs, table_refused, stands_in, repeats, repeated_of}
 use Rattle.program.specs.Seat.{seat_of}
 
@@ -78,7 +76,7 @@ module _ (ids : List ℕ) (id : ℕ) where
 
 module _ (ids : List ℕ) where
   -- no id repeats exactly where two rows never have one id
-  pub distinct : repeated_of ids ≡ Nowhere → (p q : ℕ) → p < q → q < length ids → get_or ids p 0 ≡ get_or ids q 0 → ⊥
+  pub distinct : repeated_of ids ≡ None → (p q : ℕ) → p < q → q < length ids → get_or ids p 0 ≡ get_or ids q 0 → ⊥
   unfolding repeated_of repeats
   distinct e p q l h w =
       true≢false (sym (stands_if ids (get_or ids q 0) q p l w) ∙ (nowhere_means (repeats ids) (length ids) e).passed q h)
@@ -91,27 +89,27 @@ module _ (ids : List ℕ) where
   unfolding repeats
   distinct_row q n = not_repeated q n (stands_in ids (get_or ids q 0) q) refl
 
-  pub distinct_if : ((p q : ℕ) → p < q → q < length ids → get_or ids p 0 ≡ get_or ids q 0 → ⊥) → repeated_of ids ≡ Nowhere
+  pub distinct_if : ((p q : ℕ) → p < q → q < length ids → get_or ids p 0 ≡ get_or ids q 0 → ⊥) → repeated_of ids ≡ None
   unfolding repeated_of
   distinct_if n = nowhere_if _ _ (record { passed = λ q h. distinct_row q (λ p l. n p q l h) })
 
   -- ids that rise repeat nothing
-  pub rising_distinct : (flags : List ℕ) → rows_of ids flags ≡ Rises → repeated_of ids ≡ Nowhere
+  pub rising_distinct : (flags : List ℕ) → rows_of ids flags ≡ Ok tt → repeated_of ids ≡ None
   rising_distinct flags e = distinct_if (λ p q l h w. omega (arith, rising_order ids flags e p q l h))
 
   -- the later of the first pair: its id stands in an earlier row, and up to it no id repeats
-  pub repeated_means : (k : ℕ) → repeated_of ids ≡ Row k → (k < length ids) × Stands ids (get_or ids k 0) k
+  pub repeated_means : (k : ℕ) → repeated_of ids ≡ Some k → (k < length ids) × Stands ids (get_or ids k 0) k
   unfolding repeated_of repeats
   repeated_means k e = let f = row_means (repeats ids) (length ids) k e in (f.inside, stands_means ids (get_or ids k 0) k f.picked)
 
-  pub repeated_first : (k : ℕ) → repeated_of ids ≡ Row k → (p q : ℕ) → p < q → q < k → get_or ids p 0 ≡ get_or ids q 0 → ⊥
+  pub repeated_first : (k : ℕ) → repeated_of ids ≡ Some k → (p q : ℕ) → p < q → q < k → get_or ids p 0 ≡ get_or ids q 0 → ⊥
   unfolding repeated_of repeats
   repeated_first k e p q l h w =
       true≢false (sym (stands_if ids (get_or ids q 0) q p l w) ∙ (row_means (repeats ids) (length ids) k e).earlier q h)
 
 -- where no id repeats, a function's own number is the row that reading row after row finds
-seat_by : (ids : List ℕ) (id : ℕ) → repeated_of ids ≡ Nowhere → (a b : Bool) → ltb id (length ids) ≡ a → has_id ids id id ≡ b
-    → cond (a && b) (Row id) (place_of ids id) ≡ place_of ids id
+seat_by : (ids : List ℕ) (id : ℕ) → repeated_of ids ≡ None → (a b : Bool) → ltb id (length ids) ≡ a → has_id ids id id ≡ b
+    → cond (a && b) (Some id) (place_of ids id) ≡ place_of ids id
 seat_by ids id e true true h w =
     let l = ltb-true id (length ids) h in
     let z = eqb-true (get_or ids id 0) id w in
@@ -119,6 +117,6 @@ seat_by ids id e true true h w =
 seat_by ids id e true false h w = refl
 seat_by ids id e false b h w = refl
 
-pub seat_place : (ids : List ℕ) (id : ℕ) → repeated_of ids ≡ Nowhere → seat_of ids id ≡ place_of ids id
+pub seat_place : (ids : List ℕ) (id : ℕ) → repeated_of ids ≡ None → seat_of ids id ≡ place_of ids id
 unfolding seat_of
 seat_place ids id e = seat_by ids id e (ltb id (length ids)) (has_id ids id id) refl refl

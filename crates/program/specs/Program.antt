@@ -1,8 +1,8 @@
 -- The program that lent columns state.
 -- Assumes nothing.
+use Rattle.codes.specs.First.{Place}
 use Rattle.std.specs.Prelude.{ℕ, ◌≡◌, refl, List, get_or, take, drop}
 use Rattle.codes.specs.Lookup as lookup
-use Rattle.codes.specs.declared.Place.{Place}
 
 -- "functions (id, parameter count, declared maximum depth, body offset, body length)"
 pub record Functions : Type 0 where

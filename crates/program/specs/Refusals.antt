@@ -1,22 +1,17 @@
 -- 01's refusals of an input, 30 to 35. "Order: 31, 30, 34, 32, 33, 35; the stack call never looks at descriptors, entries or pool."
 -- Assumes nothing.
-use Rattle.std.specs.Prelude.{ℕ, zero, suc, ◌+◌, ◌*◌, ◌-◌, Bool, true, false, cond, ◌||◌, List, [], ◌∷◌, ltb, eqb, length, get_or}
-use Rattle.codes.specs.First.{first_of}
+use Rattle.std.specs.Prelude.{ℕ, zero, suc, ◌+◌, ◌*◌, ◌-◌, Bool, true, false, cond, ◌||◌, List, [], ◌∷◌, ltb, eqb, length, get_or, Ok, Err, Some, None}
+use Rattle.codes.specs.First.{first_of, Place}
 use Rattle.codes.specs.Lookup.{has_id}
-use Rattle.codes.specs.Rows.{rows_of}
-use Rattle.codes.specs.declared.Order.{Order}
-use Rattle.codes.specs.declared.Order.TheVariants.{Rises, Fault}
-use Rattle.codes.specs.declared.Place.{Place}
-use Rattle.codes.specs.declared.Place.TheVariants.{Row, Nowhere}
+use Rattle.codes.specs.Rows.{rows_of, Order}
 use Rattle.program.specs.Program.{Functions, CodeList, Program, PoolProgram}
 use Rattle.program.specs.declared.Lengths.{Lengths}
 use Rattle.program.specs.declared.Room.{Room}
-use Rattle.program.specs.declared.Input.{Input}
-use Rattle.program.specs.declared.Input.TheVariants.{Taken, TooMany, ScratchShort, ListFault, IdRepeated, BodyOutside, PoolTooLarge}
+use Rattle.program.specs.declared.Refusal.TheVariants.{TooMany, ScratchShort, ListFault, IdRepeated, BodyOutside, PoolTooLarge}
 
 -- the answer's number; 0 is no refusal
 abbrev pub input_number : Input → ℕ
-input_number Taken = 0
+input_number (Ok _) = 0
 input_number TooMany = 31
 input_number ScratchShort = 30
 input_number (ListFault k) = 34
@@ -26,7 +21,7 @@ input_number PoolTooLarge = 35
 
 -- no refusal
 abbrev pub is_taken : Input → Bool
-is_taken Taken = true
+is_taken (Ok _) = true
 is_taken TooMany = false
 is_taken ScratchShort = false
 is_taken (ListFault k) = false
@@ -40,7 +35,7 @@ room_of m d q e = record { marks = m; depths = d; queue = q; queue_depths = e }
 
 -- "30 to 35 carry a place: the first faulty row for 32 (the later of the pair), 33 and 34, else 0"
 abbrev pub input_place : Input → ℕ
-input_place Taken = 0
+input_place (Ok _) = 0
 input_place TooMany = 0
 input_place ScratchShort = 0
 input_place (ListFault k) = k
@@ -114,16 +109,16 @@ outside_of offsets lengths code = first_of (outside offsets lengths code) (lengt
 
 -- 34, 32 and 33, each before what is left
 abbrev pub on_list : Order → Input → Input
-on_list (Fault k) rest = ListFault k
-on_list Rises rest = rest
+on_list (Err k) rest = ListFault k
+on_list (Ok _) rest = rest
 
 abbrev pub on_repeated : Place → Input → Input
-on_repeated (Row k) rest = IdRepeated k
-on_repeated Nowhere rest = rest
+on_repeated (Some k) rest = IdRepeated k
+on_repeated None rest = rest
 
 abbrev pub on_outside : Place → Input → Input
-on_outside (Row k) rest = BodyOutside k
-on_outside Nowhere rest = rest
+on_outside (Some k) rest = BodyOutside k
+on_outside None rest = rest
 
 unfoldable pub directory_of : List ℕ → List ℕ → List ℕ → ℕ → Input → Input
 directory_of ids offsets lengths code rest = on_repeated (repeated_of ids) (on_outside (outside_of offsets lengths code) rest)
@@ -133,7 +128,7 @@ contents_of list f code rest = on_list (rows_of list.ids list.flags) (directory_
 
 -- 35: "declared pool 65,535"
 unfoldable pub on_pool : ℕ → Input
-on_pool pool = cond (eqb pool 65535) PoolTooLarge Taken
+on_pool pool = cond (eqb pool 65535) PoolTooLarge (Ok tt)
 
 -- "Order: 31, 30, 34, 32, 33, 35": `many` and `short` are what a call has to say of 31 and 30 besides, and `rest` what comes after 33
 unfoldable pub input_of : Program → Room → Bool → Bool → Input → Input
@@ -144,7 +139,7 @@ input_of p room many short rest =
 
 -- the stack call's input: "the stack call never looks at descriptors, entries or pool"
 unfoldable pub stack_input : Program → Room → Input
-stack_input p room = input_of p room false false Taken
+stack_input p room = input_of p room false false (Ok tt)
 
 -- the pool call's input; "for the pool check 128 x 128 callee cells"
 unfoldable pub pool_input : PoolProgram → Room → ℕ → Input

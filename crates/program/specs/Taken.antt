@@ -1,6 +1,6 @@
 -- What is known of an input that is taken: the calls take exactly such inputs, which is shown in proofs/Taken.antt.
 -- Assumes nothing.
-use Rattle.std.specs.Prelude.{ℕ, ◌+◌, ◌*◌, ◌≤◌, ◌<◌, refl, true, ◌||◌, get_or, drop}
+use Rattle.std.specs.Prelude.{ℕ, ◌+◌, ◌*◌, ◌≤◌, ◌<◌, refl, true, ◌||◌, get_or, drop, Ok, None}
 use native.Mathlib.Omega.{arith}
 use Rattle.std.proofs.Math.Path.{◌≡◌}
 use Rattle.std.proofs.Math.Bool.{false}
@@ -11,16 +11,13 @@ use Rattle.std.proofs.Math.Seq.{length-take-le}
 use borrow.Author.Tests.{ltb-false}
 use Rattle.codes.specs.Rows.{rows_of}
 use Rattle.codes.specs.Laws.{or_false}
-use Rattle.codes.specs.declared.Order.TheVariants.{Rises}
-use Rattle.codes.specs.declared.Place.TheVariants.{Nowhere}
 use Rattle.program.specs.Program.{Program, PoolProgram, body_of, row_of}
-use Rattle.program.specs.Refusals.{is_taken, functions_refused, list_refused, too_many, repeated_of}
+use Rattle.program.specs.Refusals.{is_taken, functions_refused, list_refused, too_many, repeated_of, Input}
 use Rattle.program.specs.Laws.{seat_place}
 use Rattle.program.specs.Seat.{seat_of}
 use Rattle.program.specs.declared.Lengths.{Lengths}
 use Rattle.program.specs.declared.Room.{Room}
-use Rattle.program.specs.declared.Input.{Input}
-use Rattle.program.specs.declared.Input.TheVariants.{Taken, TooMany, ScratchShort, ListFault, IdRepeated, BodyOutside, PoolTooLarge}
+use Rattle.program.specs.declared.Refusal.TheVariants.{TooMany, ScratchShort, ListFault, IdRepeated, BodyOutside, PoolTooLarge}
 
 -- code within its limit
 pub code_limit : (n : Lengths) → too_many n ≡ false → n.code ≤ 12288
@@ -42,8 +39,8 @@ pub record StackTaken (p : Program) (room : Room) : Type 0 where
   pub depths_room : length p.code + 1 ≤ room.depths
   pub queue_room : 2 * length p.code + 2 ≤ room.queue
   pub queue_depths_room : 2 * length p.code + 2 ≤ room.queue_depths
-  pub list_rises : rows_of p.list.ids p.list.flags ≡ Rises
-  pub ids_distinct : repeated_of p.functions.ids ≡ Nowhere
+  pub list_rises : rows_of p.list.ids p.list.flags ≡ Ok tt
+  pub ids_distinct : repeated_of p.functions.ids ≡ None
   pub bodies_inside : (k : ℕ) → k < length p.functions.ids → get_or p.functions.offsets k 0 + get_or p.functions.lengths k 0 ≤ length p.code
 
 -- an input that the pool call takes
@@ -70,8 +67,8 @@ module _ (p : Program) (room : Room) where
   taken_seat t id = seat_place p.functions.ids id t.ids_distinct
 
 -- where an input is no refusal, it is taken
-pub taken_is : (input : Input) → is_taken input ≡ true → input ≡ Taken
-taken_is Taken e = refl
+pub taken_is : (input : Input) → is_taken input ≡ true → input ≡ Ok tt
+taken_is (Ok _) e = refl
 taken_is TooMany e = absurd (false≢true e)
 taken_is ScratchShort e = absurd (false≢true e)
 taken_is (ListFault k) e = absurd (false≢true e)

@@ -2,6 +2,7 @@
 -- By the cases of the rules in their order; a legal target is within the body or at its end. So such a body is accepted exactly if some
 -- depths satisfy the rules.
 -- Assumes nothing.
+use Rattle.std.specs.Prelude.{Ok, Err}
 use mathlib.Core.Path.{◌≡◌, refl}
 use mathlib.Core.Bool.{Bool, true, false, cond}
 use mathlib.Core.List.{List}
@@ -14,9 +15,7 @@ use borrow.Author.Tests.{ltb-true, ltb-false}
 use Rattle.tables.specs.declared.Effect.{Effect}
 use Rattle.flow.specs.declared.Flow.{Flow}
 use Rattle.flow.specs.declared.Flow.TheVariants.{Next, Jump, Branch, Return}
-use Rattle.flow.specs.declared.Target.{Target}
-use Rattle.flow.specs.declared.Target.TheVariants.{Legal, Illegal}
-use Rattle.flow.specs.Decode.{operands_at, flow_of, moved, target_of}
+use Rattle.flow.specs.Decode.{operands_at, flow_of, moved, target_of, Target}
 use Rattle.flow.proofs.Next.{legal}
 use Rattle.rules.specs.declared.Known.{Known}
 use Rattle.rules.specs.declared.Violation.{Violation}
@@ -41,9 +40,9 @@ module _ (known : Effects) (marks body : List ℕ) (maximum : ℕ) where
   abbrev Fine : Look → Type 0
   Fine L = Bounded (length body + 1) maximum L
 
-  target_bounded : (offset : ℕ) (go : ℕ → Look) (target : Target) → ((to : ℕ) → target ≡ Legal to → Fine (go to)) → Fine (on_target offset go target)
-  target_bounded offset go (Legal to) h = h to refl
-  target_bounded offset go (Illegal spot) h = tt
+  target_bounded : (offset : ℕ) (go : ℕ → Look) (target : Target) → ((to : ℕ) → target ≡ Ok to → Fine (go to)) → Fine (on_target offset go target)
+  target_bounded offset go (Ok to) h = h to refl
+  target_bounded offset go (Err spot) h = tt
 
   flowing_bounded : (offset next op out : ℕ) (flow : Flow) → next ≤ length body → out ≤ maximum → Fine (flowing marks (length body) offset next op out flow)
   unfolding flowing

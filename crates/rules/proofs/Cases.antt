@@ -1,6 +1,7 @@
 -- The rules at one place, a law for each case, with its tests as hypotheses: 01's order is what each law asks of the tests before its own.
 -- The code of a look is proved by these alone.
 -- Assumes nothing.
+use Rattle.std.specs.Prelude.{Ok, Err}
 use mathlib.Core.Path.{◌≡◌, refl, ◌∙◌, ap}
 use mathlib.Core.Bool.{Bool, true, false, cond}
 use mathlib.Core.List.{List}
@@ -11,7 +12,6 @@ use borrow.Author.Tests.{ltb-true, lt-ltb, le-ltb, eq-eqb, ne_eqb}
 use Rattle.tables.specs.declared.Effect.{Effect}
 use Rattle.flow.specs.declared.Spot.{Spot}
 use Rattle.flow.specs.declared.Flow.TheVariants.{Next, Jump, Branch, Return}
-use Rattle.flow.specs.declared.Target.TheVariants.{Legal, Illegal}
 use Rattle.flow.specs.Decode.{operands_at, flow_of, moved, target_of}
 use Rattle.rules.specs.declared.Known.{Known}
 use Rattle.rules.specs.declared.Violation.{Violation}
@@ -32,19 +32,19 @@ module _ (marks : List ℕ) (end offset next op out : ℕ) where
   unfolding flowing
   flowing_next = refl
 
-  pub jump_legal : (word to : ℕ) → target_of marks end (moved next word) ≡ Legal to → flowing marks end offset next op out (Jump word) ≡ Goes out to
+  pub jump_legal : (word to : ℕ) → target_of marks end (moved next word) ≡ Ok to → flowing marks end offset next op out (Jump word) ≡ Goes out to
   unfolding flowing
   jump_legal word to e = rw e
 
-  pub jump_illegal : (word : ℕ) (spot : Spot) → target_of marks end (moved next word) ≡ Illegal spot → flowing marks end offset next op out (Jump word) ≡ Bad (Violation.InvalidJumpTarget offset spot)
+  pub jump_illegal : (word : ℕ) (spot : Spot) → target_of marks end (moved next word) ≡ Err spot → flowing marks end offset next op out (Jump word) ≡ Bad (Violation.InvalidJumpTarget offset spot)
   unfolding flowing
   jump_illegal word spot e = rw e
 
-  pub branch_legal : (word to : ℕ) → target_of marks end (moved next word) ≡ Legal to → flowing marks end offset next op out (Branch word) ≡ Forks out to next
+  pub branch_legal : (word to : ℕ) → target_of marks end (moved next word) ≡ Ok to → flowing marks end offset next op out (Branch word) ≡ Forks out to next
   unfolding flowing
   branch_legal word to e = rw e
 
-  pub branch_illegal : (word : ℕ) (spot : Spot) → target_of marks end (moved next word) ≡ Illegal spot → flowing marks end offset next op out (Branch word) ≡ Bad (Violation.InvalidJumpTarget offset spot)
+  pub branch_illegal : (word : ℕ) (spot : Spot) → target_of marks end (moved next word) ≡ Err spot → flowing marks end offset next op out (Branch word) ≡ Bad (Violation.InvalidJumpTarget offset spot)
   unfolding flowing
   branch_illegal word spot e = rw e
 

@@ -1,6 +1,7 @@
 -- What it means that no rule is broken at a place: the effect is known, the depth suffices for what is taken, the depths before and after are
 -- within the declared maximum, a target is legal, and an exit is at its depth. By the cases of the rules.
 -- Assumes nothing.
+use Rattle.std.specs.Prelude.{Ok, Err}
 use mathlib.Core.Path.{◌≡◌, refl}
 use mathlib.Core.Bool.{Bool, true, false, cond}
 use mathlib.Core.List.{List}
@@ -10,10 +11,8 @@ use lib.Dec.{ltb, eqb}
 use lib.ListN.{length, get_or}
 use borrow.Author.Tests.{ltb-true, ltb-false, eqb-true}
 use Rattle.tables.specs.declared.Effect.{Effect}
-use Rattle.flow.specs.declared.Target.{Target}
-use Rattle.flow.specs.declared.Target.TheVariants.{Legal, Illegal}
 use Rattle.flow.specs.declared.Flow.TheVariants.{Jump, Branch, Return}
-use Rattle.flow.specs.Decode.{operands_at, flow_of, moved, target_of}
+use Rattle.flow.specs.Decode.{operands_at, flow_of, moved, target_of, Target}
 use Rattle.rules.specs.declared.Known.{Known}
 use Rattle.rules.specs.declared.Look.{Look}
 use Rattle.rules.specs.declared.Look.TheVariants.{Bad}
@@ -41,9 +40,9 @@ both_within a b x h = by (ltb a b) refl h
     by true e l = let g = ltb-true a b e in (omega arith, l)
     by false e l = let g = ltb-false a b e in (l, omega arith)
 
-target_held : (offset : ℕ) (go : ℕ → Look) (target : Target) → Holds (on_target offset go target) → (to : ℕ) × (target ≡ Legal to)
-target_held offset go (Legal to) h = (to, refl)
-target_held offset go (Illegal spot) h = absurd h
+target_held : (offset : ℕ) (go : ℕ → Look) (target : Target) → Holds (on_target offset go target) → (to : ℕ) × (target ≡ Ok to)
+target_held offset go (Ok to) h = (to, refl)
+target_held offset go (Err spot) h = absurd h
 
 -- RET needs 1 after it, RET_VOID 0; a branch has a legal target
 module _ (marks : List ℕ) (end offset next op out : ℕ) where
@@ -51,11 +50,11 @@ module _ (marks : List ℕ) (end offset next op out : ℕ) where
   unfolding flowing
   return_held h = exit_held offset (cond (eqb op 0x88) 1 0) out h
 
-  pub jump_held : (word : ℕ) → Holds (flowing marks end offset next op out (Jump word)) → (to : ℕ) × (target_of marks end (moved next word) ≡ Legal to)
+  pub jump_held : (word : ℕ) → Holds (flowing marks end offset next op out (Jump word)) → (to : ℕ) × (target_of marks end (moved next word) ≡ Ok to)
   unfolding flowing
   jump_held word h = target_held offset (λ to. Look.Goes out to) (target_of marks end (moved next word)) h
 
-  pub branch_held : (word : ℕ) → Holds (flowing marks end offset next op out (Branch word)) → (to : ℕ) × (target_of marks end (moved next word) ≡ Legal to)
+  pub branch_held : (word : ℕ) → Holds (flowing marks end offset next op out (Branch word)) → (to : ℕ) × (target_of marks end (moved next word) ≡ Ok to)
   unfolding flowing
   branch_held word h = target_held offset (λ to. Look.Forks out to next) (target_of marks end (moved next word)) h
 

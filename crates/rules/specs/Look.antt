@@ -1,13 +1,11 @@
 -- 01's rules at one place, an offset of a body at a depth. `known` gives an instruction's effect from its opcode and operands; `marks` hold an
 -- instruction's size at each start and 0 elsewhere. Nothing else repeats these rules.
 -- Assumes nothing.
-use Rattle.std.specs.Prelude.{ℕ, ◌+◌, ◌-◌, ◌≤◌, ◌<◌, cond, List, ltb, eqb, length, get_or}
+use Rattle.std.specs.Prelude.{ℕ, ◌+◌, ◌-◌, ◌≤◌, ◌<◌, cond, List, ltb, eqb, length, get_or, Ok, Err}
 use Rattle.tables.specs.declared.Effect.{Effect}
 use Rattle.flow.specs.declared.Flow.{Flow}
 use Rattle.flow.specs.declared.Flow.TheVariants.{Next, Jump, Branch, Return}
-use Rattle.flow.specs.declared.Target.{Target}
-use Rattle.flow.specs.declared.Target.TheVariants.{Legal, Illegal}
-use Rattle.flow.specs.Decode.{operands_at, flow_of, moved, target_of}
+use Rattle.flow.specs.Decode.{operands_at, flow_of, moved, target_of, Target}
 use Rattle.rules.specs.declared.Known.{Known}
 use Rattle.rules.specs.declared.Violation.{Violation}
 use Rattle.rules.specs.declared.Look.{Look}
@@ -26,8 +24,8 @@ exit_at offset expected depth = cond (eqb depth expected) Leaves (Bad (Violation
 
 -- 7, else the branch target
 abbrev pub on_target : ℕ → (ℕ → Look) → Target → Look
-on_target offset go (Legal to) = go to
-on_target offset go (Illegal spot) = Bad (Violation.InvalidJumpTarget offset spot)
+on_target offset go (Ok to) = go to
+on_target offset go (Err spot) = Bad (Violation.InvalidJumpTarget offset spot)
 
 -- the successors, branch target before next instruction
 unfoldable pub flowing : List ℕ → ℕ → ℕ → ℕ → ℕ → ℕ → Flow → Look

@@ -1,6 +1,8 @@
 -- The stack call accepts exactly if the input is not refused, every body decodes to its end and in each one depth per reachable offset satisfies
 -- every rule. Each body by the walk's own theorem, over any sizes and effects; the directory row by row.
 -- Assumes nothing.
+use Rattle.std.specs.Prelude.{Ok, Err}
+use Rattle.flow.specs.declared.starts.Stop.{Stop}
 use Prim.Native.Nat.{ℕ, zero, suc, ◌+◌, ◌≤◌, ◌<◌}
 use native.Mathlib.Omega.{arith}
 use mathlib.Core.Path.{◌≡◌, refl, ◌∙◌, ap}
@@ -9,13 +11,11 @@ use mathlib.Core.List.{List, [], ◌∷◌}
 use native.Mathlib.Decide.{ℕ_discrete}
 use lib.ListN.{length, get_or}
 use Rattle.tables.specs.Set.{size_of, move_of}
-use Rattle.flow.specs.declared.starts.Decoded.{Decoded}
-use Rattle.flow.specs.Walk.{walk_by, end_of, marks_of}
+use Rattle.flow.specs.Walk.{walk_by, end_of, marks_of, Decoded}
 use Rattle.flow.proofs.Next.{body_fits}
-use Rattle.program.specs.declared.Input.{Input}
 use Rattle.program.specs.declared.Room.{Room}
 use Rattle.program.specs.Program.{Program, body_of}
-use Rattle.program.specs.Refusals.{stack_input}
+use Rattle.program.specs.Refusals.{stack_input, Input}
 use Rattle.rules.specs.declared.Walked.{Walked}
 use Rattle.rules.specs.Look.{Effects, look_of, Bounded}
 use Rattle.rules.specs.Walk.{walk_of, walk_from, begun}
@@ -39,10 +39,10 @@ module _ (sizes : ℕ → ℕ) (known : Effects) (body : List ℕ) (maximum : �
   walked : (walk_of (look_of known (marks_of sizes body) body maximum) (length body + 1) ≡ Walked.Accepted) ↔ ((depth : ℕ → ℕ) × Satisfies (look_of known (marks_of sizes body) body maximum) depth)
   walked = exact (look_of known (marks_of sizes body) body maximum) (length body + 1) maximum bounded (omega arith)
 
-  whole_by : (d : Decoded) (w : Walked) → on_decoded d w ≡ Walked.Accepted → (d ≡ Decoded.Whole) × (w ≡ Walked.Accepted)
-  whole_by Decoded.Whole w e = (refl, e)
-  whole_by (Decoded.Unknown o b) w e = absurd (let z : ◌≡◌ {A = ℕ} 0 1 = cc in omega arith)
-  whole_by (Decoded.Truncated o b) w e = absurd (let z : ◌≡◌ {A = ℕ} 0 1 = cc in omega arith)
+  whole_by : (d : Decoded) (w : Walked) → on_decoded d w ≡ Walked.Accepted → (d ≡ (Ok tt)) × (w ≡ Walked.Accepted)
+  whole_by (Ok _) w e = (refl, e)
+  whole_by (Err (Stop.Unknown o b)) w e = absurd (let z : ◌≡◌ {A = ℕ} 0 1 = cc in omega arith)
+  whole_by (Err (Stop.Truncated o b)) w e = absurd (let z : ◌≡◌ {A = ℕ} 0 1 = cc in omega arith)
 
   pub body_sound : body_answer sizes known body maximum ≡ Walked.Accepted → Balanced sizes known body maximum
   unfolding body_answer
@@ -82,8 +82,8 @@ module _ (sizes : ℕ → ℕ) (known : Effects) (p : Program) where
   functions_exact =
       (λ e row h. all_sound (length p.functions.ids) 0 e row (omega arith) (omega arith), λ a. all_complete (length p.functions.ids) 0 (λ k l h. a k (omega arith)))
 
-taken_by : (input : Input) (rest : Verdict) → on_input input rest ≡ Verdict.Accepted → (input ≡ Input.Taken) × (rest ≡ Verdict.Accepted)
-taken_by Input.Taken rest e = (refl, e)
+taken_by : (input : Input) (rest : Verdict) → on_input input rest ≡ Verdict.Accepted → (input ≡ Ok tt) × (rest ≡ Verdict.Accepted)
+taken_by (Ok _) rest e = (refl, e)
 taken_by Input.TooMany rest e = absurd (let z : ◌≡◌ {A = ℕ} 0 1 = cc in omega arith)
 taken_by Input.ScratchShort rest e = absurd (let z : ◌≡◌ {A = ℕ} 0 1 = cc in omega arith)
 taken_by (Input.ListFault k) rest e = absurd (let z : ◌≡◌ {A = ℕ} 0 1 = cc in omega arith)

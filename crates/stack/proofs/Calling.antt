@@ -1,6 +1,7 @@
 -- The whole call: what the code reads out of its tables and columns on an input that is taken is 01's, the cleared scratch has room, and what the
 -- answer leaves of the scratch.
 -- Assumes nothing.
+use Rattle.std.specs.Prelude.{Ok}
 use Prim.Native.Nat.{ℕ, zero, suc, ◌≤◌}
 use native.Mathlib.Omega.{arith}
 use mathlib.Core.Path.{◌≡◌, refl, ◌∙◌, ap, ap₂, sym}
@@ -13,10 +14,9 @@ use Rattle.tables.specs.Set.{size_of, move_of}
 use Rattle.tables.specs.Laws.{method_only}
 use Rattle.tables.specs.Packed.{size_in, move_in, size_table, word_table}
 use Rattle.tables.specs.Stored.{size_stored, move_stored, GoesOn, goes_on_stored}
-use Rattle.program.specs.declared.Input.{Input}
 use Rattle.program.specs.declared.Room.{Room}
 use Rattle.program.specs.Program.{Program, body_of}
-use Rattle.program.specs.Refusals.{stack_input, is_taken, room_of}
+use Rattle.program.specs.Refusals.{stack_input, is_taken, room_of, Input}
 use Rattle.program.specs.Taken.{StackTaken, taken_is}
 use Rattle.program.proofs.Taken.{stack_taken}
 use Rattle.rules.specs.declared.Walked.{Walked}
@@ -62,7 +62,7 @@ taken_room p m d q e marks depths queue t em ed eq =
     )
 
 not_taken : (input : Input) (rest : Verdict) → is_taken input ≡ false → Verdict.Refused input ≡ on_input input rest
-not_taken Input.Taken rest e = absurd (true≢false e)
+not_taken (Ok _) rest e = absurd (true≢false e)
 not_taken Input.TooMany rest e = refl
 not_taken Input.ScratchShort rest e = refl
 not_taken (Input.ListFault k) rest e = refl

@@ -1,5 +1,6 @@
 -- A body's answer by how its decoding ends, the columns that its walk begins with, and the directory's rows one after the other.
 -- Assumes nothing.
+use Rattle.std.specs.Prelude.{Ok}
 use Prim.Native.Nat.{ℕ, suc, ◌+◌, ◌-◌, ◌≤◌, ◌<◌}
 use native.Mathlib.Omega.{arith}
 use mathlib.Core.Path.{◌≡◌, refl, ◌∙◌, ap, ap₂, sym}
@@ -7,8 +8,7 @@ use native.Mathlib.Numerals.{add-one}
 use mathlib.Core.List.{List}
 use lib.ListN.{length, get_or, set, take, drop, length-take, length-drop}
 use Rattle.cells.specs.Zeros.{zeros, zeros_are, length_zeros, any_zero}
-use Rattle.flow.specs.declared.starts.Decoded.{Decoded}
-use Rattle.flow.specs.Walk.{walk_by, end_of, mark_all, marks_of}
+use Rattle.flow.specs.Walk.{walk_by, end_of, mark_all, marks_of, Decoded}
 use Rattle.flow.proofs.Next.{marks_fit, marks_are}
 use Rattle.rules.specs.declared.Violation.{Violation}
 use Rattle.rules.specs.declared.Walked.{Walked}
@@ -25,9 +25,9 @@ module _ (sizes : ℕ → ℕ) (known : Effects) (body : List ℕ) (maximum : �
   unfolding body_answer
   body_stops d e = ap (λ (w : Decoded). on_decoded w (walk_of (look_of known (marks_of sizes body) body maximum) (length body + 1))) e
 
-  pub body_walks : (marks first : List ℕ) → marks ≡ mark_all (walk_by sizes body 0) first → first ≡ zeros (length body) → Decoded.Whole ≡ end_of (walk_by sizes body 0) → walk_of (look_of known marks body maximum) (length body + 1) ≡ body_answer sizes known body maximum
+  pub body_walks : (marks first : List ℕ) → marks ≡ mark_all (walk_by sizes body 0) first → first ≡ zeros (length body) → (Ok tt) ≡ end_of (walk_by sizes body 0) → walk_of (look_of known marks body maximum) (length body + 1) ≡ body_answer sizes known body maximum
   body_walks marks first m z e =
-      ap (λ (u : List ℕ). walk_of (look_of known u body maximum) (length body + 1)) (m ∙ ap (mark_all (walk_by sizes body 0)) z ∙ sym (marks_are sizes body)) ∙ body_stops Decoded.Whole e
+      ap (λ (u : List ℕ). walk_of (look_of known u body maximum) (length body + 1)) (m ∙ ap (mark_all (walk_by sizes body 0)) z ∙ sym (marks_are sizes body)) ∙ body_stops (Ok tt) e
 
 pub marks_fitting : (sizes : ℕ → ℕ) (body marks first : List ℕ) → marks ≡ mark_all (walk_by sizes body 0) first → first ≡ zeros (length body) → Fitting marks body
 marks_fitting sizes body marks first m z offset h =

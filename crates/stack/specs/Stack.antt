@@ -1,14 +1,13 @@
 -- The stack check: functions in directory order, the whole body decoded first, then the walk; the first violation ends the call.
 -- Assumes nothing.
-use Rattle.std.specs.Prelude.{ℕ, zero, suc, ◌+◌, List, length, get_or}
+use Rattle.flow.specs.declared.starts.Stop.{Stop}
+use Rattle.std.specs.Prelude.{ℕ, zero, suc, ◌+◌, List, length, get_or, Ok, Err}
 use Rattle.cells.specs.Zeros.{zeros}
 use Rattle.tables.specs.Set.{size_of, move_of}
-use Rattle.flow.specs.declared.starts.Decoded.{Decoded}
-use Rattle.flow.specs.Walk.{walk_by, end_of, marks_of}
-use Rattle.program.specs.declared.Input.{Input}
+use Rattle.flow.specs.Walk.{walk_by, end_of, marks_of, Decoded}
 use Rattle.program.specs.declared.Room.{Room}
 use Rattle.program.specs.Program.{Program, body_of}
-use Rattle.program.specs.Refusals.{stack_input}
+use Rattle.program.specs.Refusals.{stack_input, Input}
 use Rattle.rules.specs.declared.Violation.{Violation}
 use Rattle.rules.specs.declared.Walked.{Walked}
 use Rattle.rules.specs.Look.{Effects, look_of}
@@ -20,9 +19,9 @@ use Rattle.stack.specs.declared.Verdict.{Verdict}
 
 -- decode the whole body first (1, 2)
 abbrev pub on_decoded : Decoded → Walked → Walked
-on_decoded Decoded.Whole walked = walked
-on_decoded (Decoded.Unknown offset byte) walked = Walked.Violated (Violation.UnknownOpcode offset byte)
-on_decoded (Decoded.Truncated offset opcode) walked = Walked.Violated (Violation.TruncatedInstruction offset opcode)
+on_decoded (Ok _) walked = walked
+on_decoded (Err (Stop.Unknown offset byte)) walked = Walked.Violated (Violation.UnknownOpcode offset byte)
+on_decoded (Err (Stop.Truncated offset opcode)) walked = Walked.Violated (Violation.TruncatedInstruction offset opcode)
 
 -- then a first-in first-out queue from offset 0 at depth 0
 unfoldable pub body_answer : (ℕ → ℕ) → Effects → List ℕ → ℕ → Walked
@@ -44,7 +43,7 @@ unfoldable pub functions_answer : (ℕ → ℕ) → Effects → Program → Verd
 functions_answer sizes known p = functions_from sizes known p (length p.functions.ids) 0
 
 abbrev pub on_input : Input → Verdict → Verdict
-on_input Input.Taken rest = rest
+on_input (Ok _) rest = rest
 on_input Input.TooMany rest = Verdict.Refused Input.TooMany
 on_input Input.ScratchShort rest = Verdict.Refused Input.ScratchShort
 on_input (Input.ListFault k) rest = Verdict.Refused (Input.ListFault k)

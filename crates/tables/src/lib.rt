@@ -10,14 +10,14 @@ ghost use Rattle.tables.specs.Set.{effect, no_movement};
 ghost use Rattle.tables.specs.Packed.{size_table, word_table, size_in, effect_in, move_in, temp_in, plain_in};
 
 // A function's id, and a function-block type's: one handed over for the other does not build.
-#[derive(Drop)]
+#[derive(Clone, Copy, PartialEq, Eq, Debug)]
 pub struct FunctionId(pub u16);
 
-#[derive(Drop)]
+#[derive(Clone, Copy, PartialEq, Eq, Debug)]
 pub struct FbTypeId(pub u16);
 
 // What an instruction does to the operand stack: it takes so many values, and then leaves so many.
-#[derive(Drop)]
+#[derive(Clone, Copy, PartialEq, Eq, Debug)]
 pub struct Effect {
     pub takes: u16,
     pub leaves: u16,
@@ -38,7 +38,7 @@ impl Effect {
 }
 
 // Where an instruction's effect comes from: the table, or what its operands name.
-#[derive(Drop)]
+#[derive(Clone, Copy, PartialEq, Eq, Debug)]
 pub enum Move {
     Fixed(Effect),
     Builtin,
@@ -47,7 +47,7 @@ pub enum Move {
 }
 
 // What an instruction does to the temp buffers: the crate's temp_effect of 0, 1 and -1.
-#[derive(Drop)]
+#[derive(Clone, Copy, PartialEq, Eq, Debug)]
 pub enum TempEffect {
     Keeps,
     Borrows,
@@ -55,7 +55,7 @@ pub enum TempEffect {
 }
 
 // What an operand is; its width in bytes is `width` of specs/Set.antt.
-#[derive(Drop)]
+#[derive(Clone, Copy, PartialEq, Eq, Debug)]
 pub enum Operand {
     ConstIndex,
     VarIndex,

@@ -11,12 +11,11 @@
 --     tame_self        a tame function weighs no more than the pool
 --     tame_callee      and what it calls is tame within what it leaves of the pool
 --     tame_reached     and what it reaches is tame within the pool
-use Rattle.std.specs.Prelude.{◌≡◌, Bool, List, [], ◌∷◌, length, get_or}
+use Rattle.codes.specs.First.{Place}
+use Rattle.std.specs.Prelude.{◌≡◌, Bool, List, [], ◌∷◌, length, get_or, Some, None}
 use Rattle.std.proofs.Math.Path.{refl, ap, fun_ext}
 use Rattle.std.proofs.Common.{ap₂, ◌∙◌, inl, inr, ⊎_elim, arith}
 use Prim.Native.Nat.{ℕ, zero, suc, ◌+◌, ◌-◌, ◌*◌, ◌≤◌, ◌<◌}
-use Rattle.codes.specs.declared.Place.{Place}
-use Rattle.codes.specs.declared.Place.TheVariants.{Row, Nowhere}
 use Rattle.program.specs.Seat.{seat_of}
 use Rattle.visit.specs.declared.Visited.{Visited}
 use Rattle.visit.specs.Graph.{Graph, Among, Calls, last, call, weigh, Reaches, same, more, Tame}
@@ -53,24 +52,24 @@ same_cells cells cells' (suc n) place on =
     ap₂ (λ (c : ℕ) (l : List ℕ). at_cell c l) e (same_cells cells cells' n (suc place)
     (λ i k. ap (λ (m : ℕ). get_or cells m 0) (omega arith) ∙ on (suc i) (omega arith) ∙ ap (λ (m : ℕ). get_or cells' m 0) (omega arith)))
 
-pub entry_known : (ids entries : List ℕ) (e f : ℕ) → Among e entries → seat_of ids e ≡ Row f → Among f (entry_rows ids entries)
+pub entry_known : (ids entries : List ℕ) (e f : ℕ) → Among e entries → seat_of ids e ≡ Some f → Among f (entry_rows ids entries)
 unfolding entry_rows row_at
 entry_known ids [] e f i q = i
 entry_known ids (x ∷ es) e f i q = ⊎_elim (λ z. inl (ap (λ (y : ℕ). row_at (seat_of ids y)) z ∙ ap row_at q)) (λ j. inr (entry_known ids es e f j q)) i
 
-pub row_known : (f : ℕ) → row_at (Row f) ≡ f
+pub row_known : (f : ℕ) → row_at (Some f) ≡ f
 unfolding row_at
 row_known f = refl
 
-row_of : (p : Place) (f : ℕ) → row_at p ≡ f → f < 128 → p ≡ Row f
+row_of : (p : Place) (f : ℕ) → row_at p ≡ f → f < 128 → p ≡ Some f
 unfolding row_at
-row_of (Row g) f e h = ap Row e
-row_of Nowhere f e h = absurd (omega arith)
+row_of (Some g) f e h = ap Some e
+row_of None f e h = absurd (omega arith)
 
-pub known_row : (p : Place) (f : ℕ) → row_at p ≡ f → f < 128 → p ≡ Row f
+pub known_row : (p : Place) (f : ℕ) → row_at p ≡ f → f < 128 → p ≡ Some f
 known_row p f e h = row_of p f e h
 
-pub known_entry : (ids entries : List ℕ) (f : ℕ) → Among f (entry_rows ids entries) → f < 128 → (e : ℕ) × Among e entries × (seat_of ids e ≡ Row f)
+pub known_entry : (ids entries : List ℕ) (f : ℕ) → Among f (entry_rows ids entries) → f < 128 → (e : ℕ) × Among e entries × (seat_of ids e ≡ Some f)
 unfolding entry_rows
 known_entry ids [] f i h = absurd i
 known_entry ids (x ∷ es) f i h =

@@ -1,7 +1,6 @@
 -- The graph that lent columns hold, and the rows of the entries. Assumes nothing: these are definitions.
-use Rattle.std.specs.Prelude.{ℕ, zero, suc, ◌*◌, List, [], ◌∷◌, get_or}
-use Rattle.codes.specs.declared.Place.{Place}
-use Rattle.codes.specs.declared.Place.TheVariants.{Row, Nowhere}
+use Rattle.codes.specs.First.{Place}
+use Rattle.std.specs.Prelude.{ℕ, zero, suc, ◌*◌, List, [], ◌∷◌, get_or, Some, None}
 use Rattle.program.specs.Seat.{seat_of}
 use Rattle.visit.specs.Graph.{Graph}
 
@@ -24,8 +23,8 @@ graph_in cells weights = record { calls = callees_in cells; weight = λ f. get_o
 
 -- an entry that is not in the directory has no row, as 128 has no function
 unfoldable pub row_at : Place → ℕ
-row_at (Row f) = f
-row_at Nowhere = 128
+row_at (Some f) = f
+row_at None = 128
 
 unfoldable pub entry_rows : List ℕ → List ℕ → List ℕ
 entry_rows ids [] = []

@@ -10,10 +10,10 @@ use Rattle.codes.proofs.find_hinted.Goals.{then-row-ids+else-ids-row, else-row-i
 
 pub returns-then-ids-row : goal.returns-then-ids-row
 returns-then-ids-row c = let a = c.args in
-    let w = c.wide-row.ensures ∙ c.at.ensures ∙ ap (λ (k : ℕ). get_or a.hints.now k 0) c.hint_cell.ensures in
-    sym (hinted_here a.ids.now a.id a.hints.now c.wide-row.result w c.if-row-ids.true (omega (arith, c.if-ids-row.true)))
+    let w = c.at-row.ensures ∙ ap (λ (k : ℕ). get_or a.hints.now k 0) c.hint_cell.ensures in
+    sym (hinted_here a.ids.now a.id a.hints.now c.at-row.result w c.if-row-ids.true (omega (arith, c.if-ids-row.true)))
 
 pub returns : goal.returns
 returns c = let a = c.args in
-    let w = c.wide-row.ensures ∙ c.at.ensures ∙ ap (λ (k : ℕ). get_or a.hints.now k 0) c.hint_cell.ensures in
-    elim c.if-row-ids.branch [ then-row-ids+else-ids-row d ↦ c.find.ensures ∙ sym (hinted_other a.ids.now a.id a.hints.now c.wide-row.result w d.if-row-ids.true d.if-ids-row.false) | else-row-ids d ↦ c.find.ensures ∙ sym (hinted_past a.ids.now a.id a.hints.now c.wide-row.result w d.if-row-ids.false) ]
+    let w = c.at-row.ensures ∙ ap (λ (k : ℕ). get_or a.hints.now k 0) c.hint_cell.ensures in
+    elim c.if-row-ids.branch [ then-row-ids+else-ids-row d ↦ c.find.ensures ∙ sym (hinted_other a.ids.now a.id a.hints.now c.at-row.result w d.if-row-ids.true d.if-ids-row.false) | else-row-ids d ↦ c.find.ensures ∙ sym (hinted_past a.ids.now a.id a.hints.now c.at-row.result w d.if-row-ids.false) ]

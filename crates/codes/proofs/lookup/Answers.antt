@@ -6,4 +6,4 @@ use Rattle.codes.proofs.lookup.Goals as goal
 
 pub returns : goal.returns
 unfolding looked_up
-returns c = c.entry_at.ensures ∙ ap (entry_at c.args.counts.now c.args.flags.now) c.find.ensures
+returns c = c.entry_at.ensures ∙ ap (entry_at c.args.list.now.counts.now c.args.list.now.flags.now) c.find.ensures

@@ -6,10 +6,10 @@ use Rattle.rules.specs.declared.Known.{Known}
 use Rattle.effects.specs.Effects.{on_place, method_by}
 use Rattle.effects.proofs.method_effect.Goals as goal
 
-pub returns-in-Row : goal.returns-in-Row
+pub returns-in-Some : goal.returns-in-Some
 unfolding method_by
-returns-in-Row c = ap Known.Moves (c.new.ensures ∙ ap₂ effect c.at.ensures (c.wide.ensures ∙ c.at.ensures)) ∙ sym (ap (on_place _ _ _) (sym c.function_row-place.ensures ∙ c.in-Row.is))
+returns-in-Some c = ap Known.Moves (c.new.ensures ∙ ap₂ effect c.at.ensures (c.wide.ensures ∙ c.at.ensures)) ∙ sym (ap (on_place _ _ _) (sym c.function_row-place.ensures ∙ c.in-Some.is))
 
-pub returns-in-Nowhere : goal.returns-in-Nowhere
+pub returns-in-None : goal.returns-in-None
 unfolding method_by
-returns-in-Nowhere c = sym (ap (on_place _ _ _) (sym c.function_row-place.ensures ∙ c.in-Nowhere.is))
+returns-in-None c = sym (ap (on_place _ _ _) (sym c.function_row-place.ensures ∙ c.in-None.is))

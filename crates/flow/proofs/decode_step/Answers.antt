@@ -13,14 +13,14 @@ pub returns-then-size-eq0 : goal.returns-then-size-eq0
 unfolding step_by
 returns-then-size-eq0 c = simp (lt-leb _ _ c.if-body-at.false, eq-eqb _ 0 (sym c.size_in-size.ensures ∙ c.if-size-eq0.true))
 
-pub returns-then-wide-body : goal.returns-then-wide-body
+pub returns-then-from-body : goal.returns-then-from-body
 unfolding step_by
-returns-then-wide-body c = let e = c.size_in-size.ensures in
-    let n = c.wide.ensures in
-    simp (e, lt-leb _ _ c.if-body-at.false, ne_eqb _ 0 (λ z. c.if-size-eq0.false (e ∙ z)), le-leb _ _ (rw (n, e) at c.if-wide-body.true))
+returns-then-from-body c = let e = c.size_in-size.ensures in
+    let n = c.from.ensures in
+    simp (e, lt-leb _ _ c.if-body-at.false, ne_eqb _ 0 (λ z. c.if-size-eq0.false (e ∙ z)), le-leb _ _ (rw (n, e) at c.if-from-body.true))
 
-pub returns-else-wide-body : goal.returns-else-wide-body
+pub returns-else-from-body : goal.returns-else-from-body
 unfolding step_by
-returns-else-wide-body c = let e = c.size_in-size.ensures in
-    let n = c.wide.ensures in
-    simp (lt-leb _ _ c.if-body-at.false, ne_eqb _ 0 (λ z. c.if-size-eq0.false (e ∙ z)), lt-leb _ _ (rw (n, e) at c.if-wide-body.false))
+returns-else-from-body c = let e = c.size_in-size.ensures in
+    let n = c.from.ensures in
+    simp (lt-leb _ _ c.if-body-at.false, ne_eqb _ 0 (λ z. c.if-size-eq0.false (e ∙ z)), lt-leb _ _ (rw (n, e) at c.if-from-body.false))

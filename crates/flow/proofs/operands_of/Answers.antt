@@ -25,4 +25,4 @@ returns-then-size-eq0 c = c.part-then-size-eq0.ensures ∙ sym (sizeless c.args.
 
 pub returns : goal.returns
 unfolding operands_at
-returns c = rw c.wide.ensures at c.part-2.ensures
+returns c = rw c.from.ensures at c.part-2.ensures

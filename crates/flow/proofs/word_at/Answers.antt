@@ -1,7 +1,7 @@
 -- `flow::word_at` meets its contract: past the end both bytes are 0.
 -- Assumes nothing.
-use Prim.Native.Nat.{ℕ, ◌+◌, ◌*◌}
-use mathlib.Core.Path.{◌≡◌, ◌∙◌, ap}
+use Prim.Native.Nat.{◌+◌}
+use mathlib.Core.Path.{◌≡◌}
 use native.Mathlib.Omega.{arith}
 use lib.ListN.{get_or, get_or-eq_default}
 use Rattle.flow.specs.Decode.{word_at}
@@ -17,4 +17,4 @@ returns-then-operands-i c = let s = c.args.operands.now in
 
 pub returns : goal.returns
 unfolding word_at
-returns c = c.word.ensures ∙ ap (λ (n : ℕ). get_or c.args.operands.now c.args.i 0 + n * 256) c.at.ensures
+returns c = omega (arith, c.at.ensures, c.from.ensures, c.from-2.ensures)

@@ -3,8 +3,8 @@
 use mathlib.Core.Path.{◌∙◌, sym}
 use Rattle.program.proofs.contents.Goals as goal
 
-pub returns-in-Fault : goal.returns-in-Fault
-returns-in-Fault c = rw (sym c.check_rows-order.ensures ∙ c.in-Fault.is)
+pub returns-in-Err : goal.returns-in-Err
+returns-in-Err c = rw (sym c.check_rows-order.ensures ∙ c.in-Err.is)
 
-pub returns-in-Rises : goal.returns-in-Rises
-returns-in-Rises c = rw (sym c.check_rows-order.ensures ∙ c.in-Rises.is) c.directory.ensures
+pub returns-in-Ok : goal.returns-in-Ok
+returns-in-Ok c = rw (sym c.check_rows-order.ensures ∙ c.in-Ok.is) c.directory.ensures

@@ -4,14 +4,14 @@ use mathlib.Core.Path.{◌∙◌, sym}
 use Rattle.program.specs.Refusals.{directory_of}
 use Rattle.program.proofs.directory.Goals as goal
 
-pub returns-in-Row : goal.returns-in-Row
+pub returns-in-Some : goal.returns-in-Some
 unfolding directory_of
-returns-in-Row c = rw (sym c.repeated-again.ensures ∙ c.in-Row.is)
+returns-in-Some c = rw (sym c.repeated-again.ensures ∙ c.in-Some.is)
 
-pub returns-in-Row-beyond : goal.returns-in-Row-beyond
+pub returns-in-Some-beyond : goal.returns-in-Some-beyond
 unfolding directory_of
-returns-in-Row-beyond c = rw (sym c.repeated-again.ensures ∙ c.in-Nowhere.is, sym c.outside_row-beyond.ensures ∙ c.in-Row-beyond.is)
+returns-in-Some-beyond c = rw (sym c.repeated-again.ensures ∙ c.in-None.is, sym c.outside_row-beyond.ensures ∙ c.in-Some-beyond.is)
 
-pub returns-in-Nowhere-beyond : goal.returns-in-Nowhere-beyond
+pub returns-in-None-beyond : goal.returns-in-None-beyond
 unfolding directory_of
-returns-in-Nowhere-beyond c = rw (sym c.repeated-again.ensures ∙ c.in-Nowhere.is, sym c.outside_row-beyond.ensures ∙ c.in-Nowhere-beyond.is)
+returns-in-None-beyond c = rw (sym c.repeated-again.ensures ∙ c.in-None.is, sym c.outside_row-beyond.ensures ∙ c.in-None-beyond.is)

@@ -3,10 +3,10 @@ use mathlib.Core.Path.{ap, ◌∙◌, sym}
 use Rattle.visit.specs.Cells.{row_at}
 use Rattle.visit.proofs.entry_row.Goals as goal
 
-pub returns-in-Row : goal.returns-in-Row
+pub returns-in-Some : goal.returns-in-Some
 unfolding row_at
-returns-in-Row c = sym (ap row_at (sym c.function_row-place.ensures ∙ c.in-Row.is))
+returns-in-Some c = sym (ap row_at (sym c.function_row-place.ensures ∙ c.in-Some.is))
 
-pub returns-in-Nowhere : goal.returns-in-Nowhere
+pub returns-in-None : goal.returns-in-None
 unfolding row_at
-returns-in-Nowhere c = sym (ap row_at (sym c.function_row-place.ensures ∙ c.in-Nowhere.is))
+returns-in-None c = sym (ap row_at (sym c.function_row-place.ensures ∙ c.in-None.is))

@@ -20,18 +20,18 @@ returns-then-op c = let s = c.args.body.now in
 
 pub overflow_add-at : goal.overflow_add-at
 overflow_add-at c = let k = stands _ c.args.body.now c.skip_ones-from.result _ _ (sym c.decode_step-step.ensures ∙ c.in-Instruction.is) in
-    omega (arith, k.within, c.wide.ensures, c)
+    omega (arith, k.within, c.from.ensures, c)
 
 pub loop-at-smaller : goal.loop-at-smaller
 loop-at-smaller c = let k = stands _ c.args.body.now c.skip_ones-from.result _ _ (sym c.decode_step-step.ensures ∙ c.in-Instruction.is) in
-    omega (arith, k.within, k.some, c.wide.ensures, c.skip_ones-from.ensures.onward, c.loop-at-test.true)
+    omega (arith, k.within, k.some, c.from.ensures, c.skip_ones-from.ensures.onward, c.loop-at-test.true)
 
 pub loop-at-preserved : goal.loop-at-preserved
 loop-at-preserved c = let s = c.args.body.now in
     let at = c.skip_ones-from.result in
     let e = sym c.decode_step-step.ensures ∙ c.in-Instruction.is in
     let m = skipped_then _ s _ c.loop-at.at at c.loop-at.invariant c.skip_ones-from.ensures in
-    rw c.wide.ensures (skipped_then _ s _ at _ m (skipped_on _ s at _ _ e c.if-op.false))
+    rw c.from.ensures (skipped_then _ s _ at _ m (skipped_on _ s at _ _ e c.if-op.false))
 
 pub returns-in-Unknown : goal.returns-in-Unknown
 returns-in-Unknown c = let s = c.args.body.now in

@@ -13,11 +13,11 @@ loop-at-init c = marked_first _ _ _ _ (search rules)
 
 pub overflow_add-at : goal.overflow_add-at
 overflow_add-at c = let k = stands _ c.args.body.now c.mark_ones-from.result _ _ (sym c.decode_step-step.ensures ∙ c.in-Instruction.is) in
-    omega (arith, k.within, c.wide.ensures, c)
+    omega (arith, k.within, c.from.ensures, c)
 
 pub loop-at-smaller : goal.loop-at-smaller
 loop-at-smaller c = let k = stands _ c.args.body.now c.mark_ones-from.result _ _ (sym c.decode_step-step.ensures ∙ c.in-Instruction.is) in
-    omega (arith, k.within, k.some, c.wide.ensures, c.mark_ones-from.ensures.onward, c.loop-at-test.true)
+    omega (arith, k.within, k.some, c.from.ensures, c.mark_ones-from.ensures.onward, c.loop-at-test.true)
 
 pub loop-at-preserved : goal.loop-at-preserved
 loop-at-preserved c = let l = c.loop-at in
@@ -25,7 +25,7 @@ loop-at-preserved c = let l = c.loop-at in
     let s = c.args.body.now in
     let e = sym c.decode_step-step.ensures ∙ c.in-Instruction.is in
     let m = marked_then _ s _ _ l.at l.marks o.result o.new.marks l.invariant o.ensures in
-    rw c.wide.ensures (marked_on _ s _ _ o.result o.new.marks c.put.new.column _ _ m e c.put.ensures)
+    rw c.from.ensures (marked_on _ s _ _ o.result o.new.marks c.put.new.column _ _ m e c.put.ensures)
 
 pub returns-in-Unknown : goal.returns-in-Unknown
 returns-in-Unknown c = let l = c.loop-at in

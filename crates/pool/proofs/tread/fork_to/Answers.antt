@@ -5,5 +5,5 @@ use Rattle.buffers.specs.declared.Way.{Way}
 use Rattle.buffers.specs.Tread.{on_target}
 use Rattle.pool.proofs.tread.fork_to.Goals as goal
 
-pub returns-in-Legal : goal.returns-in-Legal
-returns-in-Legal c = sym (ap (on_target (λ to. Way.Forks to c.args.next)) c.in-Legal.is)
+pub returns-in-Ok : goal.returns-in-Ok
+returns-in-Ok c = sym (ap (on_target (λ to. Way.Forks to c.args.next)) c.in-Ok.is)

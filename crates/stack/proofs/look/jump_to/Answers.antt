@@ -4,8 +4,8 @@ use mathlib.Core.Path.{sym, ap}
 use Rattle.rules.specs.Look.{on_target}
 use Rattle.stack.proofs.look.jump_to.Goals as goal
 
-pub returns-in-Legal : goal.returns-in-Legal
-returns-in-Legal c = sym (ap (on_target _ _) c.in-Legal.is)
+pub returns-in-Ok : goal.returns-in-Ok
+returns-in-Ok c = sym (ap (on_target _ _) c.in-Ok.is)
 
-pub returns-in-Illegal : goal.returns-in-Illegal
-returns-in-Illegal c = sym (ap (on_target _ _) c.in-Illegal.is)
+pub returns-in-Err : goal.returns-in-Err
+returns-in-Err c = sym (ap (on_target _ _) c.in-Err.is)
