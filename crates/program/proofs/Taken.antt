@@ -21,21 +21,21 @@ use Rattle.program.specs.declared.Refusal.TheVariants.{TooMany, ScratchShort, Po
 
 -- the order of the refusals
 module _ (p : Program) (room : Room) (many short : Bool) (rest : Input) where
-  pub input_count : too_many (lengths_of p) ≡ true → input_of p room many short rest ≡ TooMany
+  pub input_count : too_many (lengths_of p) ≡ true → input_of p room many short rest ≡ Err TooMany
   unfolding input_of
   input_count e = rw e
 
-  pub input_many : too_many (lengths_of p) ≡ false → many ≡ true → input_of p room many short rest ≡ TooMany
+  pub input_many : too_many (lengths_of p) ≡ false → many ≡ true → input_of p room many short rest ≡ Err TooMany
   unfolding input_of
   input_many e m = rw (e, m)
 
   pub input_room : too_many (lengths_of p) ≡ false → many ≡ false → scratch_short (length p.code) room ≡ true
-      → input_of p room many short rest ≡ ScratchShort
+      → input_of p room many short rest ≡ Err ScratchShort
   unfolding input_of
   input_room e m s = rw (e, m, s)
 
   pub input_short : too_many (lengths_of p) ≡ false → many ≡ false → scratch_short (length p.code) room ≡ false → short ≡ true
-      → input_of p room many short rest ≡ ScratchShort
+      → input_of p room many short rest ≡ Err ScratchShort
   unfolding input_of
   input_short e m s t = rw (e, m, s, t)
 
@@ -49,10 +49,10 @@ past : (b : Bool) (refusal rest : Input) → (refusal ≡ Ok tt → ⊥) → con
 past true refusal rest n e = absurd (n e)
 past false refusal rest n e = (refl, e)
 
-not_many : TooMany ≡ Ok tt → ⊥
+not_many : ◌≡◌ {A = Input} (Err TooMany) (Ok tt) → ⊥
 not_many e = let z : ◌≡◌ {A = ℕ} 0 1 = cc in omega arith
 
-not_short : ScratchShort ≡ Ok tt → ⊥
+not_short : ◌≡◌ {A = Input} (Err ScratchShort) (Ok tt) → ⊥
 not_short e = let z : ◌≡◌ {A = ℕ} 0 1 = cc in omega arith
 
 past_list : (o : Order) (rest : Input) → on_list o rest ≡ Ok tt → (o ≡ Ok tt) × (rest ≡ Ok tt)
@@ -98,8 +98,8 @@ module _ (p : Program) (room : Room) (many short : Bool) (rest : Input) where
   input_parts : input_of p room many short rest ≡ Ok tt → Parts p room many short rest
   unfolding input_of
   input_parts e =
-      let a = past (too_many (lengths_of p) || many) TooMany _ not_many e in
-      let b = past (scratch_short (length p.code) room || short) ScratchShort _ not_short a.1 in
+      let a = past (too_many (lengths_of p) || many) (Err TooMany) _ not_many e in
+      let b = past (scratch_short (length p.code) room || short) (Err ScratchShort) _ not_short a.1 in
       let d = or_false (too_many (lengths_of p)) many a.0 in
       let f = or_false (scratch_short (length p.code) room) short b.0 in
       record { few = d.0; few_more = d.1; roomy = f.0; roomy_more = f.1; sound = contents_past _ _ _ _ b.1 }
@@ -144,7 +144,7 @@ module _ (p : Program) (room : Room) where
   unfolding stack_input
   stack_taken e = parts_taken p room false false (Ok tt) (input_parts p room false false (Ok tt) e)
 
-  taken_parts : StackTaken p room → Parts p room false false Ok tt
+  taken_parts : StackTaken p room → Parts p room false false (Ok tt)
   unfolding too_many table_refused scratch_short
   taken_parts t =
       let n = lengths_of p in
@@ -196,9 +196,9 @@ module _ (q : PoolProgram) (room : Room) (cells : ℕ) where
 
   pool_small : (n : ℕ) → on_pool n ≡ Ok tt → n ≡ 65535 → ⊥
   unfolding on_pool
-  pool_small n e = eqb-false n 65535 (past (eqb n 65535) PoolTooLarge (Ok tt) not_large e).0
+  pool_small n e = eqb-false n 65535 (past (eqb n 65535) (Err PoolTooLarge) (Ok tt) not_large e).0
     where
-      not_large : PoolTooLarge ≡ Ok tt → ⊥
+      not_large : ◌≡◌ {A = Input} (Err PoolTooLarge) (Ok tt) → ⊥
       not_large w = let z : ◌≡◌ {A = ℕ} 0 1 = cc in omega arith
 
   pub pool_taken : pool_input q room cells ≡ Ok tt → PoolTaken q room cells

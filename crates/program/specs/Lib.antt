@@ -1,4 +1,5 @@
 pub mod Program
+pub mod Stated
 pub mod Refusals
 pub mod Seat
 pub mod Seen

@@ -1,47 +1,53 @@
 -- 01's refusals of an input, 30 to 35. "Order: 31, 30, 34, 32, 33, 35; the stack call never looks at descriptors, entries or pool."
 -- Assumes nothing.
-use Rattle.std.specs.Prelude.{ℕ, zero, suc, ◌+◌, ◌*◌, ◌-◌, Bool, true, false, cond, ◌||◌, List, [], ◌∷◌, ltb, eqb, length, get_or, Ok, Err, Some, None}
+use Rattle.std.specs.Prelude.{ℕ, zero, suc, ◌+◌, ◌*◌, ◌-◌, Bool, true, false, cond, ◌||◌, List, [], ◌∷◌, ltb, eqb, length, get_or, Ok, Err, Some, None, Result}
 use Rattle.codes.specs.First.{first_of, Place}
 use Rattle.codes.specs.Lookup.{has_id}
 use Rattle.codes.specs.Rows.{rows_of, Order}
 use Rattle.program.specs.Program.{Functions, CodeList, Program, PoolProgram}
-use Rattle.program.specs.declared.Lengths.{Lengths}
 use Rattle.program.specs.declared.Room.{Room}
+use Rattle.program.specs.declared.Refusal.{Refusal}
 use Rattle.program.specs.declared.Refusal.TheVariants.{TooMany, ScratchShort, ListFault, IdRepeated, BodyOutside, PoolTooLarge}
 
--- the answer's number; 0 is no refusal
+-- what is said of an input before anything is checked
+abbrev pub Input : Type 0
+Input = Result (Unit {0}) Refusal
+
+-- the answer's number
+abbrev pub refusal_number : Refusal → ℕ
+refusal_number TooMany = 31
+refusal_number ScratchShort = 30
+refusal_number (ListFault k) = 34
+refusal_number (IdRepeated k) = 32
+refusal_number (BodyOutside k) = 33
+refusal_number PoolTooLarge = 35
+
+-- 0 is no refusal
 abbrev pub input_number : Input → ℕ
 input_number (Ok _) = 0
-input_number TooMany = 31
-input_number ScratchShort = 30
-input_number (ListFault k) = 34
-input_number (IdRepeated k) = 32
-input_number (BodyOutside k) = 33
-input_number PoolTooLarge = 35
+input_number (Err refusal) = refusal_number refusal
 
 -- no refusal
 abbrev pub is_taken : Input → Bool
 is_taken (Ok _) = true
-is_taken TooMany = false
-is_taken ScratchShort = false
-is_taken (ListFault k) = false
-is_taken (IdRepeated k) = false
-is_taken (BodyOutside k) = false
-is_taken PoolTooLarge = false
+is_taken (Err refusal) = false
 
 -- the lent scratch: start marks, depths and two queue columns
 abbrev pub room_of : ℕ → ℕ → ℕ → ℕ → Room
 room_of m d q e = record { marks = m; depths = d; queue = q; queue_depths = e }
 
 -- "30 to 35 carry a place: the first faulty row for 32 (the later of the pair), 33 and 34, else 0"
+abbrev pub refusal_place : Refusal → ℕ
+refusal_place TooMany = 0
+refusal_place ScratchShort = 0
+refusal_place (ListFault k) = k
+refusal_place (IdRepeated k) = k
+refusal_place (BodyOutside k) = k
+refusal_place PoolTooLarge = 0
+
 abbrev pub input_place : Input → ℕ
 input_place (Ok _) = 0
-input_place TooMany = 0
-input_place ScratchShort = 0
-input_place (ListFault k) = k
-input_place (IdRepeated k) = k
-input_place (BodyOutside k) = k
-input_place PoolTooLarge = 0
+input_place (Err refusal) = refusal_place refusal
 
 -- "Columns of one table that differ in length give 31": a column whose length is not `rows`
 abbrev pub differs : ℕ → List ℕ → Bool
@@ -51,6 +57,18 @@ differs rows (n ∷ columns) = cond (eqb n rows) (differs rows columns) true
 -- 31, "a count above its limit": a table by its limit, the length of its first column and the lengths of its others
 unfoldable pub table_refused : ℕ → ℕ → List ℕ → Bool
 table_refused limit rows others = ltb limit rows || differs rows others
+
+-- the lengths of a program's columns
+pub record Lengths : Type 0 where
+  pub ids : ℕ
+  pub parameters : ℕ
+  pub maxima : ℕ
+  pub offsets : ℕ
+  pub lengths : ℕ
+  pub list_ids : ℕ
+  pub counts : ℕ
+  pub flags : ℕ
+  pub code : ℕ
 
 -- "up to 128 functions, 6,144 code-list rows, 12,288 code bytes"
 abbrev pub functions_refused : Lengths → Bool
@@ -109,15 +127,15 @@ outside_of offsets lengths code = first_of (outside offsets lengths code) (lengt
 
 -- 34, 32 and 33, each before what is left
 abbrev pub on_list : Order → Input → Input
-on_list (Err k) rest = ListFault k
+on_list (Err k) rest = Err (ListFault k)
 on_list (Ok _) rest = rest
 
 abbrev pub on_repeated : Place → Input → Input
-on_repeated (Some k) rest = IdRepeated k
+on_repeated (Some k) rest = Err (IdRepeated k)
 on_repeated None rest = rest
 
 abbrev pub on_outside : Place → Input → Input
-on_outside (Some k) rest = BodyOutside k
+on_outside (Some k) rest = Err (BodyOutside k)
 on_outside None rest = rest
 
 unfoldable pub directory_of : List ℕ → List ℕ → List ℕ → ℕ → Input → Input
@@ -128,13 +146,13 @@ contents_of list f code rest = on_list (rows_of list.ids list.flags) (directory_
 
 -- 35: "declared pool 65,535"
 unfoldable pub on_pool : ℕ → Input
-on_pool pool = cond (eqb pool 65535) PoolTooLarge (Ok tt)
+on_pool pool = cond (eqb pool 65535) (Err PoolTooLarge) (Ok tt)
 
 -- "Order: 31, 30, 34, 32, 33, 35": `many` and `short` are what a call has to say of 31 and 30 besides, and `rest` what comes after 33
 unfoldable pub input_of : Program → Room → Bool → Bool → Input → Input
 input_of p room many short rest =
-    cond (too_many (lengths_of p) || many) TooMany
-    (cond (scratch_short (length p.code) room || short) ScratchShort
+    cond (too_many (lengths_of p) || many) (Err TooMany)
+    (cond (scratch_short (length p.code) room || short) (Err ScratchShort)
     (contents_of p.list p.functions (length p.code) rest))
 
 -- the stack call's input: "the stack call never looks at descriptors, entries or pool"

@@ -1,6 +1,6 @@
 -- What is known of an input that is taken: the calls take exactly such inputs, which is shown in proofs/Taken.antt.
 -- Assumes nothing.
-use Rattle.std.specs.Prelude.{ℕ, ◌+◌, ◌*◌, ◌≤◌, ◌<◌, refl, true, ◌||◌, get_or, drop, Ok, None}
+use Rattle.std.specs.Prelude.{ℕ, ◌+◌, ◌*◌, ◌≤◌, ◌<◌, refl, true, ◌||◌, get_or, drop, Ok, None, Err}
 use native.Mathlib.Omega.{arith}
 use Rattle.std.proofs.Math.Path.{◌≡◌}
 use Rattle.std.proofs.Math.Bool.{false}
@@ -12,12 +12,10 @@ use borrow.Author.Tests.{ltb-false}
 use Rattle.codes.specs.Rows.{rows_of}
 use Rattle.codes.specs.Laws.{or_false}
 use Rattle.program.specs.Program.{Program, PoolProgram, body_of, row_of}
-use Rattle.program.specs.Refusals.{is_taken, functions_refused, list_refused, too_many, repeated_of, Input}
+use Rattle.program.specs.Refusals.{Lengths, is_taken, functions_refused, list_refused, too_many, repeated_of, Input}
 use Rattle.program.specs.Laws.{seat_place}
 use Rattle.program.specs.Seat.{seat_of}
-use Rattle.program.specs.declared.Lengths.{Lengths}
 use Rattle.program.specs.declared.Room.{Room}
-use Rattle.program.specs.declared.Refusal.TheVariants.{TooMany, ScratchShort, ListFault, IdRepeated, BodyOutside, PoolTooLarge}
 
 -- code within its limit
 pub code_limit : (n : Lengths) → too_many n ≡ false → n.code ≤ 12288
@@ -69,9 +67,4 @@ module _ (p : Program) (room : Room) where
 -- where an input is no refusal, it is taken
 pub taken_is : (input : Input) → is_taken input ≡ true → input ≡ Ok tt
 taken_is (Ok _) e = refl
-taken_is TooMany e = absurd (false≢true e)
-taken_is ScratchShort e = absurd (false≢true e)
-taken_is (ListFault k) e = absurd (false≢true e)
-taken_is (IdRepeated k) e = absurd (false≢true e)
-taken_is (BodyOutside k) e = absurd (false≢true e)
-taken_is PoolTooLarge e = absurd (false≢true e)
+taken_is (Err refusal) e = absurd (false≢true e)

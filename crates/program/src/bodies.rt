@@ -2,23 +2,21 @@
 ghost use Rattle.std.specs.Prelude.{◌≡◌};
 ghost use Rattle.program.specs.Refusals.{outside_of};
 
-use codes::Place;
+use crate::Functions;
 
 // The first row whose body is not within `code` bytes. The length is held against what is left after the offset: their sum could wrap.
-pub fn outside_row(offsets: &[usize], lengths: &[usize], code: usize) -> Place
-    ensures { result ≡ outside_of offsets.now lengths.now code }
+pub fn outside_row(functions: &Functions<'_>, code: usize) -> Option<usize>
+    ensures { result ≡ outside_of functions.now.offsets.now functions.now.lengths.now code }
 {
-    let mut i: usize = 0;
-    while i < offsets.len() {
-        let offset = offsets[i];
+    for i in 0..functions.offsets.len() {
+        let offset = functions.offsets[i];
         if offset > code {
-            return Place::Row(i);
+            return Some(i);
         }
         let left = code - offset;
-        if cells::at(lengths, i) > left {
-            return Place::Row(i);
+        if cells::at(functions.lengths, i) > left {
+            return Some(i);
         }
-        i += 1;
     }
-    Place::Nowhere
+    None
 }

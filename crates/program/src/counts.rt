@@ -1,8 +1,9 @@
 // Refusal 31: a count above its limit, or columns of one table that differ in length.
-ghost use Rattle.std.specs.Prelude.{◌≡◌};
-ghost use Rattle.program.specs.Refusals.{table_refused, too_many, pool_too_many};
+ghost use Rattle.std.specs.Prelude.{◌≡◌, length};
+ghost use Rattle.program.specs.Stated.{program_in};
+ghost use Rattle.program.specs.Refusals.{lengths_of, table_refused, too_many, pool_too_many};
 
-use crate::Lengths;
+use crate::{Descriptors, Program};
 
 // A table by its limit, the length of its first column and the lengths of its others.
 pub fn table_refused(limit: usize, rows: usize, others: &[usize]) -> bool
@@ -11,36 +12,35 @@ pub fn table_refused(limit: usize, rows: usize, others: &[usize]) -> bool
     if rows > limit {
         return true;
     }
-    let mut i: usize = 0;
-    while i < others.len() {
-        if others[i] != rows {
+    for column in others {
+        if *column != rows {
             return true;
         }
-        i += 1;
     }
     false
 }
 
-pub fn too_many(sizes: Lengths) -> bool
-    ensures { result ≡ too_many sizes }
+pub fn too_many(program: &Program<'_>) -> bool
+    ensures { result ≡ too_many (lengths_of (program_in program.now)) }
 {
-    let functions = [sizes.parameters, sizes.maxima, sizes.offsets, sizes.lengths];
-    if table_refused(128, sizes.ids, &functions) {
+    let f = &program.functions;
+    let functions = [f.parameters.len(), f.maxima.len(), f.offsets.len(), f.lengths.len()];
+    if table_refused(128, f.ids.len(), &functions) {
         return true;
     }
-    let list = [sizes.counts, sizes.flags];
-    if table_refused(6144, sizes.list_ids, &list) {
+    let list = [program.list.counts.len(), program.list.flags.len()];
+    if table_refused(6144, program.list.ids.len(), &list) {
         return true;
     }
-    sizes.code > 12288
+    program.code.len() > 12288
 }
 
-pub fn pool_too_many(types: usize, callees: usize, entries: usize) -> bool
-    ensures { result ≡ pool_too_many types callees entries }
+pub fn pool_too_many(descriptors: &Descriptors<'_>, entries: &[u16]) -> bool
+    ensures { result ≡ pool_too_many (length descriptors.now.types.now) (length descriptors.now.callees.now) (length entries.now) }
 {
-    let others = [callees];
-    if table_refused(256, types, &others) {
+    let others = [descriptors.callees.len()];
+    if table_refused(256, descriptors.types.len(), &others) {
         return true;
     }
-    entries > 32
+    entries.len() > 32
 }

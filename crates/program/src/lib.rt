@@ -6,19 +6,52 @@ mod bodies;
 mod counts;
 mod seen;
 
-ghost use Rattle.std.specs.Prelude.{◌≡◌, ◌≤◌};
+ghost use Rattle.std.specs.Prelude.{◌≡◌, ◌≤◌, length};
 ghost use Rattle.codes.specs.Lookup.{place_of};
 ghost use Rattle.codes.specs.Rows.{rows_of};
-ghost use Rattle.program.specs.Program.{functions_of, list_of, program_of, descriptors_of, pool_program_of};
-ghost use Rattle.program.specs.Refusals.{input_number, input_place, is_taken, scratch_short, directory_of, on_list, on_pool, input_of, stack_input, pool_input};
+ghost use Rattle.program.specs.Stated.{program_in, pool_program_in};
+ghost use Rattle.program.specs.Refusals.{refusal_number, refusal_place, input_number, input_place, scratch_short, directory_of, contents_of, on_pool, input_of, stack_input, pool_input};
 ghost use Rattle.program.specs.Seat.{seat_of};
 
-use codes::{Order, Place};
+use codes::CodeList;
 
-// What is said of an input before anything is checked.
+// Functions: id, parameter count, declared maximum depth, body offset and body length.
 #[derive(Clone, Copy)]
-pub enum Input {
-    Taken,
+pub struct Functions<'a> {
+    pub ids: &'a [u16],
+    pub parameters: &'a [u16],
+    pub maxima: &'a [u16],
+    pub offsets: &'a [usize],
+    pub lengths: &'a [usize],
+}
+
+// What the stack call looks at.
+#[derive(Clone, Copy)]
+pub struct Program<'a> {
+    pub functions: Functions<'a>,
+    pub list: CodeList<'a>,
+    pub code: &'a [u8],
+}
+
+// Function-block descriptors: type id and function id.
+#[derive(Clone, Copy)]
+pub struct Descriptors<'a> {
+    pub types: &'a [u16],
+    pub callees: &'a [u16],
+}
+
+// What the pool call looks at: descriptors, entry ids and the declared pool besides.
+#[derive(Clone, Copy)]
+pub struct PoolProgram<'a> {
+    pub program: Program<'a>,
+    pub descriptors: Descriptors<'a>,
+    pub entries: &'a [u16],
+    pub pool: u16,
+}
+
+// Why an input is refused, before anything is checked.
+#[derive(Clone, Copy, PartialEq, Eq, Debug)]
+pub enum Refusal {
     TooMany,
     ScratchShort,
     ListFault(usize),
@@ -27,22 +60,8 @@ pub enum Input {
     PoolTooLarge,
 }
 
-// The lengths of a program's columns.
-#[derive(Drop)]
-pub struct Lengths {
-    pub ids: usize,
-    pub parameters: usize,
-    pub maxima: usize,
-    pub offsets: usize,
-    pub lengths: usize,
-    pub list_ids: usize,
-    pub counts: usize,
-    pub flags: usize,
-    pub code: usize,
-}
-
 // The cells of the lent scratch columns that both checks use.
-#[derive(Drop)]
+#[derive(Clone, Copy, PartialEq, Eq, Debug)]
 pub struct Room {
     pub marks: usize,
     pub depths: usize,
@@ -50,45 +69,47 @@ pub struct Room {
     pub queue_depths: usize,
 }
 
-pub fn number(input: Input) -> u32
+impl Refusal {
+    pub fn number(self) -> u32
+        ensures { result ≡ refusal_number self }
+    {
+        match self {
+            Refusal::TooMany => 31,
+            Refusal::ScratchShort => 30,
+            Refusal::ListFault(_) => 34,
+            Refusal::IdRepeated(_) => 32,
+            Refusal::BodyOutside(_) => 33,
+            Refusal::PoolTooLarge => 35,
+        }
+    }
+
+    pub fn place(self) -> usize
+        ensures { result ≡ refusal_place self }
+    {
+        match self {
+            Refusal::ListFault(row) | Refusal::IdRepeated(row) => row,
+            Refusal::BodyOutside(row) => row,
+            Refusal::TooMany | Refusal::ScratchShort | Refusal::PoolTooLarge => 0,
+        }
+    }
+}
+
+// The number of what is said of an input; 0 is no refusal.
+pub fn number(input: Result<(), Refusal>) -> u32
     ensures { result ≡ input_number input }
 {
     match input {
-        Input::Taken => 0,
-        Input::TooMany => 31,
-        Input::ScratchShort => 30,
-        Input::ListFault(_) => 34,
-        Input::IdRepeated(_) => 32,
-        Input::BodyOutside(_) => 33,
-        Input::PoolTooLarge => 35,
+        Ok(()) => 0,
+        Err(refusal) => refusal.number(),
     }
 }
 
-pub fn place(input: Input) -> usize
+pub fn place(input: Result<(), Refusal>) -> usize
     ensures { result ≡ input_place input }
 {
     match input {
-        Input::Taken => 0,
-        Input::TooMany => 0,
-        Input::ScratchShort => 0,
-        Input::ListFault(row) => row,
-        Input::IdRepeated(row) => row,
-        Input::BodyOutside(row) => row,
-        Input::PoolTooLarge => 0,
-    }
-}
-
-pub fn is_taken(input: Input) -> bool
-    ensures { result ≡ is_taken input }
-{
-    match input {
-        Input::Taken => true,
-        Input::TooMany => false,
-        Input::ScratchShort => false,
-        Input::ListFault(_) => false,
-        Input::IdRepeated(_) => false,
-        Input::BodyOutside(_) => false,
-        Input::PoolTooLarge => false,
+        Ok(()) => 0,
+        Err(refusal) => refusal.place(),
     }
 }
 
@@ -110,172 +131,96 @@ fn scratch_short(code: usize, room: Room) -> bool
 }
 
 // 32 and 33, and then `rest`.
-fn directory(ids: &[u16], offsets: &[usize], lengths: &[usize], code: usize, rest: Input) -> Input
-    ensures { result ≡ directory_of ids.now offsets.now lengths.now code rest }
+fn directory(
+    functions: &Functions<'_>,
+    code: usize,
+    rest: Result<(), Refusal>,
+) -> Result<(), Refusal>
+    ensures { result ≡ directory_of functions.now.ids.now functions.now.offsets.now functions.now.lengths.now code rest }
 {
-    let again = seen::repeated(ids);
-    match again {
-        Place::Row(row) => Input::IdRepeated(row),
-        Place::Nowhere => {
-            let beyond = bodies::outside_row(offsets, lengths, code);
-            match beyond {
-                Place::Row(row) => Input::BodyOutside(row),
-                Place::Nowhere => rest,
-            }
-        }
+    if let Some(row) = seen::repeated(functions.ids) {
+        return Err(Refusal::IdRepeated(row));
     }
+    if let Some(row) = bodies::outside_row(functions, code) {
+        return Err(Refusal::BodyOutside(row));
+    }
+    rest
 }
 
 // 34, then 32 and 33, and then `rest`.
-fn contents(
-    list_ids: &[u16],
-    flags: &[u16],
-    ids: &[u16],
-    offsets: &[usize],
-    lengths: &[usize],
-    code: usize,
-    rest: Input,
-) -> Input
-    ensures { result ≡ on_list (rows_of list_ids.now flags.now) (directory_of ids.now offsets.now lengths.now code rest) }
+fn contents(program: &Program<'_>, rest: Result<(), Refusal>) -> Result<(), Refusal>
+    ensures { result ≡ contents_of (program_in program.now).list (program_in program.now).functions (length program.now.code.now) rest }
 {
-    let order = codes::check_rows(list_ids, flags);
-    match order {
-        Order::Fault(row) => Input::ListFault(row),
-        Order::Rises => directory(ids, offsets, lengths, code, rest),
+    if let Err(row) = codes::check_rows(program.list.ids, program.list.flags) {
+        return Err(Refusal::ListFault(row));
     }
+    directory(&program.functions, program.code.len(), rest)
 }
 
-fn pool_rest(pool: u16) -> Input
+fn pool_rest(pool: u16) -> Result<(), Refusal>
     ensures { result ≡ on_pool pool }
 {
     if pool == 65535 {
-        Input::PoolTooLarge
-    } else {
-        Input::Taken
+        return Err(Refusal::PoolTooLarge);
     }
+    Ok(())
 }
 
 // Both calls' input in 01's order. `many` and `short` are what a call has to say of 31 and 30 besides, `rest` what comes after 33.
 fn ordered(
-    ids: &[u16],
-    parameters: &[u16],
-    maxima: &[u16],
-    offsets: &[usize],
-    lengths: &[usize],
-    list_ids: &[u16],
-    counts: &[u16],
-    flags: &[u16],
-    code: &[u8],
+    program: &Program<'_>,
     room: Room,
     many: bool,
     short: bool,
-    rest: Input,
-) -> Input
-    ensures { result ≡ input_of (program_of (functions_of ids.now parameters.now maxima.now offsets.now lengths.now) (list_of list_ids.now counts.now flags.now) code.now) room many short rest }
+    rest: Result<(), Refusal>,
+) -> Result<(), Refusal>
+    ensures { result ≡ input_of (program_in program.now) room many short rest }
 {
-    let sizes = Lengths {
-        ids: ids.len(),
-        parameters: parameters.len(),
-        maxima: maxima.len(),
-        offsets: offsets.len(),
-        lengths: lengths.len(),
-        list_ids: list_ids.len(),
-        counts: counts.len(),
-        flags: flags.len(),
-        code: code.len(),
-    };
-    if counts::too_many(sizes) || many {
-        return Input::TooMany;
+    if counts::too_many(program) || many {
+        return Err(Refusal::TooMany);
     }
-    if scratch_short(code.len(), room) || short {
-        return Input::ScratchShort;
+    if scratch_short(program.code.len(), room) || short {
+        return Err(Refusal::ScratchShort);
     }
-    contents(list_ids, flags, ids, offsets, lengths, code.len(), rest)
+    contents(program, rest)
 }
 
 // The stack call's input: it looks at no descriptor, entry or pool.
-pub fn stack_input(
-    ids: &[u16],
-    parameters: &[u16],
-    maxima: &[u16],
-    offsets: &[usize],
-    lengths: &[usize],
-    list_ids: &[u16],
-    counts: &[u16],
-    flags: &[u16],
-    code: &[u8],
-    room: Room,
-) -> Input
-    ensures { result ≡ stack_input (program_of (functions_of ids.now parameters.now maxima.now offsets.now lengths.now) (list_of list_ids.now counts.now flags.now) code.now) room }
+pub fn stack_input(program: &Program<'_>, room: Room) -> Result<(), Refusal>
+    ensures { result ≡ stack_input (program_in program.now) room }
 {
-    ordered(
-        ids,
-        parameters,
-        maxima,
-        offsets,
-        lengths,
-        list_ids,
-        counts,
-        flags,
-        code,
-        room,
-        false,
-        false,
-        Input::Taken,
-    )
+    ordered(program, room, false, false, Ok(()))
 }
 
 // The pool call's input: descriptors, entries, callee cells and pool besides.
-pub fn pool_input(
-    ids: &[u16],
-    parameters: &[u16],
-    maxima: &[u16],
-    offsets: &[usize],
-    lengths: &[usize],
-    list_ids: &[u16],
-    counts: &[u16],
-    flags: &[u16],
-    code: &[u8],
-    types: &[u16],
-    callees: &[u16],
-    entries: &[u16],
-    pool: u16,
-    room: Room,
-    cells: usize,
-) -> Input
-    ensures { result ≡ pool_input (pool_program_of (program_of (functions_of ids.now parameters.now maxima.now offsets.now lengths.now) (list_of list_ids.now counts.now flags.now) code.now) (descriptors_of types.now callees.now) entries.now pool) room cells }
+pub fn pool_input(program: &PoolProgram<'_>, room: Room, cells: usize) -> Result<(), Refusal>
+    ensures { result ≡ pool_input (pool_program_in program.now) room cells }
 {
-    let many = counts::pool_too_many(types.len(), callees.len(), entries.len());
+    let many = counts::pool_too_many(&program.descriptors, program.entries);
     let short = cells < 16384;
-    let rest = pool_rest(pool);
-    ordered(
-        ids, parameters, maxima, offsets, lengths, list_ids, counts, flags, code, room, many,
-        short, rest,
-    )
+    ordered(&program.program, room, many, short, pool_rest(program.pool))
 }
 
 // The first row with an id, row after row.
-pub fn first_row(ids: &[u16], id: u16) -> Place
+pub fn first_row(ids: &[u16], id: u16) -> Option<usize>
     ensures { result ≡ place_of ids.now id }
 {
-    let mut i: usize = 0;
-    while i < ids.len() {
-        if ids[i] == id {
-            return Place::Row(i);
+    for (row, found) in ids.iter().enumerate() {
+        if *found == id {
+            return Some(row);
         }
-        i += 1;
     }
-    Place::Nowhere
+    None
 }
 
 // The row of a function: most directories have each id at its own number.
-pub fn function_row(ids: &[u16], id: u16) -> Place
+pub fn function_row(ids: &[u16], id: u16) -> Option<usize>
     ensures { result ≡ seat_of ids.now id }
 {
     let own = id as usize;
     if own < ids.len() {
         if ids[own] == id {
-            return Place::Row(own);
+            return Some(own);
         }
     }
     first_row(ids, id)

@@ -4,29 +4,11 @@ ghost use Rattle.std.specs.Prelude.{◌^◌, ◌<◌, ◌≡◌};
 ghost use Rattle.program.specs.Refusals.{repeated_of};
 ghost use Rattle.program.specs.Seen.{with_bit, seen, met};
 
-use codes::{Order, Place};
-
-fn weight_of(bit: usize) -> u8
-    requires { bit < 8 }
-    ensures { result ≡ 2 ^ bit }
-{
-    match bit {
-        0 => 1,
-        1 => 2,
-        2 => 4,
-        3 => 8,
-        4 => 16,
-        5 => 32,
-        6 => 64,
-        _ => 128,
-    }
-}
-
 fn with_bit(cell: u8, bit: usize) -> u8
     requires { bit < 8 }
     ensures { result ≡ with_bit cell bit }
 {
-    let weight = weight_of(bit);
+    let weight = 1u8 << bit;
     if cell / weight % 2 == 1 {
         return cell;
     }
@@ -44,28 +26,24 @@ fn meet(marks: &mut [u8; 8192], id: u16) -> bool
     marked == cell
 }
 
-fn repeated_by_marks(ids: &[u16]) -> Place
+fn repeated_by_marks(ids: &[u16]) -> Option<usize>
     ensures { result ≡ repeated_of ids.now }
 {
     let mut marks = [0u8; 8192];
-    let mut i: usize = 0;
-    while i < ids.len() {
+    for i in 0..ids.len() {
         if meet(&mut marks, ids[i]) {
-            return Place::Row(i);
+            return Some(i);
         }
-        i += 1;
     }
-    Place::Nowhere
+    None
 }
 
 // The first row whose id stands in an earlier row.
-pub fn repeated(ids: &[u16]) -> Place
+pub fn repeated(ids: &[u16]) -> Option<usize>
     ensures { result ≡ repeated_of ids.now }
 {
-    let flags = &ids[..0];
-    let order = codes::check_rows(ids, flags);
-    match order {
-        Order::Rises => Place::Nowhere,
-        Order::Fault(_) => repeated_by_marks(ids),
+    if codes::check_rows(ids, &[]).is_ok() {
+        return None;
     }
+    repeated_by_marks(ids)
 }

@@ -1,4 +1,4 @@
--- `program::directory` meets its contract: each refusal of its part, in the order of the definition.
+-- `program::directory` meets its contract.
 -- Assumes nothing.
 use mathlib.Core.Path.{◌∙◌, sym}
 use Rattle.program.specs.Refusals.{directory_of}
@@ -6,12 +6,12 @@ use Rattle.program.proofs.directory.Goals as goal
 
 pub returns-in-Some : goal.returns-in-Some
 unfolding directory_of
-returns-in-Some c = rw (sym c.repeated-again.ensures ∙ c.in-Some.is)
+returns-in-Some c = rw (sym c.repeated.ensures ∙ c.in-Some.is)
 
-pub returns-in-Some-beyond : goal.returns-in-Some-beyond
+pub returns-in-Some-outside_row : goal.returns-in-Some-outside_row
 unfolding directory_of
-returns-in-Some-beyond c = rw (sym c.repeated-again.ensures ∙ c.in-None.is, sym c.outside_row-beyond.ensures ∙ c.in-Some-beyond.is)
+returns-in-Some-outside_row c = rw (sym c.repeated.ensures ∙ c.in_default.is, sym c.outside_row.ensures ∙ c.in-Some-outside_row.is)
 
-pub returns-in-None-beyond : goal.returns-in-None-beyond
+pub returns : goal.returns
 unfolding directory_of
-returns-in-None-beyond c = rw (sym c.repeated-again.ensures ∙ c.in-None.is, sym c.outside_row-beyond.ensures ∙ c.in-None-beyond.is)
+returns c = rw (sym c.repeated.ensures ∙ c.in_default.is, sym c.outside_row.ensures ∙ c.in_default-outside_row.is)

@@ -5,4 +5,4 @@ use Rattle.program.proofs.pool_input.Goals as goal
 
 pub returns : goal.returns
 unfolding pool_input
-returns c = rw (c.pool_too_many-many.ensures, c.pool_rest-rest.ensures) at c.ordered.ensures
+returns c = rw (c.pool_too_many-many.ensures, c.pool_rest.ensures) at c.ordered.ensures

@@ -8,6 +8,6 @@ pub returns-then-pool-eq65535 : goal.returns-then-pool-eq65535
 unfolding on_pool
 returns-then-pool-eq65535 c = rw (eq-eqb c.args.pool 65535 c.if-pool-eq65535.true)
 
-pub returns-else-pool-eq65535 : goal.returns-else-pool-eq65535
+pub returns : goal.returns
 unfolding on_pool
-returns-else-pool-eq65535 c = rw (ne_eqb c.args.pool 65535 c.if-pool-eq65535.false)
+returns c = rw (ne_eqb c.args.pool 65535 c.if-pool-eq65535.false)

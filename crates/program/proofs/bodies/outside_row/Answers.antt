@@ -21,7 +21,7 @@ returns-then-offset-code c = let l = c.loop-i in
     (row_if_lem _ _ _
     (record {
       inside = c.loop-i-test.true;
-      picked = offset_outside a.offsets.now a.lengths.now a.code l.i c.if-offset-code.true;
+      picked = offset_outside a.functions.now.offsets.now a.functions.now.lengths.now a.code l.i c.if-offset-code.true;
       earlier = l.invariant.1;
     }))
 
@@ -33,7 +33,7 @@ returns-then-at-left c = let l = c.loop-i in
     (row_if_lem _ _ _
     (record {
       inside = c.loop-i-test.true;
-      picked = length_outside a.offsets.now a.lengths.now a.code l.i (omega (arith, c.at.ensures, c.if-at-left.true));
+      picked = length_outside a.functions.now.offsets.now a.functions.now.lengths.now a.code l.i (omega (arith, c.at.ensures, c.if-at-left.true));
       earlier = l.invariant.1;
     }))
 
@@ -42,7 +42,7 @@ loop-i-preserved c = let l = c.loop-i in
     let a = c.args in (
       search rules,
       below_more _ _ l.invariant.1
-          (inside_row a.offsets.now a.lengths.now a.code l.i c.if-offset-code.false (omega (arith, c.at.ensures, c.if-at-left.false))),
+          (inside_row a.functions.now.offsets.now a.functions.now.lengths.now a.code l.i c.if-offset-code.false (omega (arith, c.at.ensures, c.if-at-left.false))),
     )
 
 pub returns : goal.returns

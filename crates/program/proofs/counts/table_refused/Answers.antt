@@ -16,19 +16,19 @@ pub returns-then-rows-limit : goal.returns-then-rows-limit
 unfolding table_refused
 returns-then-rows-limit c = rw (lt-ltb c.args.limit c.args.rows c.if-rows-limit.true)
 
-pub loop-i-init : goal.loop-i-init
-loop-i-init c = (search rules, λ k h. absurd (not-suc-le-zero h))
+pub loop-column-init : goal.loop-column-init
+loop-column-init c = (search rules, λ k h. absurd (not-suc-le-zero h))
 
-pub returns-then-others-i : goal.returns-then-others-i
+pub returns-then-column-rows : goal.returns-then-column-rows
 unfolding table_refused
-returns-then-others-i c = let a = c.args in
-    sym (or_right (ltb a.limit a.rows) _ (differs_one a.rows a.others.now c.loop-i.i c.loop-i-test.true c.if-others-i.true))
+returns-then-column-rows c = let a = c.args in
+    sym (or_right (ltb a.limit a.rows) _ (differs_one a.rows a.others.now c.loop-column.column-index c.loop-column-test.true c.if-column-rows.true))
 
-pub loop-i-preserved : goal.loop-i-preserved
-loop-i-preserved c = (search rules, below_more _ _ c.loop-i.invariant.1 c.if-others-i.false)
+pub loop-column-preserved : goal.loop-column-preserved
+loop-column-preserved c = (search rules, below_more _ _ c.loop-column.invariant.1 c.if-column-rows.false)
 
 pub returns : goal.returns
 unfolding table_refused
 returns c = let a = c.args in
-    let l = c.loop-i in
+    let l = c.loop-column in
     rw (le-ltb a.limit a.rows c.if-rows-limit.false) (sym (differs_none a.rows a.others.now (λ k h. l.invariant.1 k (omega arith))))

@@ -1,6 +1,6 @@
 -- `program::seen::repeated_by_marks` meets its contract: what is seen is what stands in the rows that were passed, and none of them repeats an id.
 -- Assumes nothing.
-use Prim.Native.Nat.{ℕ, ◌≤◌, ◌<◌, ◌-◌}
+use Prim.Native.Nat.{ℕ, ◌≤◌, ◌<◌}
 use mathlib.Core.Path.{◌≡◌}
 use mathlib.Core.List.{List}
 use mathlib.Core.Bool.{false}
@@ -18,6 +18,3 @@ pub record Met (ids marks : List ℕ) (i : ℕ) : Type 0 where
 
 abbrev pub invariant-loop-i : goal.invariant-loop-i
 invariant-loop-i l = Met l.ids l.marks l.i
-
-abbrev pub decreases-loop-i : goal.decreases-loop-i
-decreases-loop-i l = length l.ids - l.i

@@ -1,11 +1,11 @@
 -- `program::seen::with_bit` meets its contract: the weight of a clear bit fits beside the others in a byte.
 -- Assumes nothing.
-use Prim.Native.Nat.{ℕ, ◌+◌, ◌/◌, ◌%◌, ◌^◌, ◌<◌}
+use Prim.Native.Nat.{ℕ, ◌+◌, ◌/◌, ◌*◌, ◌%◌, ◌^◌, ◌<◌}
 use mathlib.Core.Path.{◌≡◌, sym}
-use native.Mathlib.Nat.{one-le-pow}
 use native.Mathlib.Omega.{arith}
 use borrow.Author.Tests.{eq-eqb, ne_eqb}
 use borrow.Author.Rules.{rules}
+use Rattle.std.proofs.lemmas.Nat.{pow_below}
 use Rattle.program.specs.Seen.{bit, with_bit}
 use Rattle.program.proofs.Bits.{flip_fits}
 use Rattle.program.proofs.seen.with_bit.Goals as goal
@@ -25,17 +25,18 @@ module _ (cell k weight : ℕ) (w : weight ≡ 2 ^ k) where
         let z : bit cell k ≡ 1 → ⊥ = λ e. n (rw w e) in
         rw w (flip_fits 8 k cell h l (omega arith))
 
-pub nonzero_div-cell : goal.nonzero_div-cell
-nonzero_div-cell c = omega (arith, c.weight_of-weight.ensures, one-le-pow c.args.bit 2 (omega arith))
+-- a bit's weight fits its byte
+weight_is : (bit : ℕ) → bit < 8 → 1 * 2 ^ bit % 256 ≡ 2 ^ bit
+weight_is bit h = let small : 2 ^ bit < 256 = pow_below bit 8 h in omega (arith, small)
 
 pub returns-then-cell-weight-eq1 : goal.returns-then-cell-weight-eq1
 returns-then-cell-weight-eq1 c = let a = c.args in
-    sym (set_before a.cell a.bit _ c.weight_of-weight.ensures c.if-cell-weight-eq1.true)
+    sym (set_before a.cell a.bit _ (weight_is a.bit c.requires) c.if-cell-weight-eq1.true)
 
 pub overflow_add-result : goal.overflow_add-result
 overflow_add-result c = let a = c.args in
-    record { fits = fits a.cell a.bit _ c.weight_of-weight.ensures c.if-cell-weight-eq1.false c.requires (search rules) }
+    record { fits = fits a.cell a.bit _ (weight_is a.bit c.requires) c.if-cell-weight-eq1.false c.requires (search rules) }
 
 pub returns : goal.returns
 returns c = let a = c.args in
-    sym (clear-before a.cell a.bit _ c.weight_of-weight.ensures c.if-cell-weight-eq1.false)
+    sym (clear-before a.cell a.bit _ (weight_is a.bit c.requires) c.if-cell-weight-eq1.false)
