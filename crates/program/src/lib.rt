@@ -9,7 +9,7 @@ mod seen;
 ghost use Rattle.std.specs.Prelude.{◌≡◌, ◌≤◌, length};
 ghost use Rattle.codes.specs.Lookup.{place_of};
 ghost use Rattle.codes.specs.Rows.{rows_of};
-ghost use Rattle.program.specs.Stated.{program_in, pool_program_in};
+ghost use Rattle.program.specs.Stated.{program_in, pool_program_in, room_in};
 ghost use Rattle.program.specs.Refusals.{refusal_number, refusal_place, input_number, input_place, scratch_short, directory_of, contents_of, on_pool, input_of, stack_input, pool_input};
 ghost use Rattle.program.specs.Seat.{seat_of};
 
@@ -67,6 +67,28 @@ pub struct Room {
     pub depths: usize,
     pub queue: usize,
     pub queue_depths: usize,
+}
+
+// The scratch that both checks are lent: start marks, depths and two queue columns.
+#[derive(Drop)]
+pub struct Scratch<'a> {
+    pub marks: &'a mut [u8],
+    pub depths: &'a mut [u32],
+    pub queue: &'a mut [u16],
+    pub queue_depths: &'a mut [u16],
+}
+
+impl Scratch<'_> {
+    pub fn room(&self) -> Room
+        ensures { result ≡ room_in self.now }
+    {
+        Room {
+            marks: self.marks.len(),
+            depths: self.depths.len(),
+            queue: self.queue.len(),
+            queue_depths: self.queue_depths.len(),
+        }
+    }
 }
 
 impl Refusal {
