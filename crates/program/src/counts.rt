@@ -24,7 +24,12 @@ pub fn too_many(program: &Program<'_>) -> bool
     ensures { result ≡ too_many (lengths_of (program_in program.now)) }
 {
     let f = &program.functions;
-    let functions = [f.parameters.len(), f.maxima.len(), f.offsets.len(), f.lengths.len()];
+    let functions = [
+        f.parameters.len(),
+        f.maxima.len(),
+        f.offsets.len(),
+        f.lengths.len(),
+    ];
     if table_refused(128, f.ids.len(), &functions) {
         return true;
     }
