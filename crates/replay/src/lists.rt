@@ -1,14 +1,12 @@
 // code-list.bin: the exported code list. Every one of the 65,536 ids is looked up in it.
 use crate::tally;
 use crate::tally::Tally;
-use codes::Entry;
+use codes::{CodeList, Listed};
 
 fn column(data: &[u8], offset: usize) -> [u16; 1024] {
     let mut cells = [0u16; 1024];
-    let mut row: usize = 0;
-    while row < 1024 {
+    for row in 0..1024usize {
         cells[row] = tally::word(data, row * 6 + offset % 6);
-        row += 1;
     }
     cells
 }
@@ -22,69 +20,40 @@ pub struct Columns {
     pub rows: usize,
 }
 
-pub fn listed(data: &[u8]) -> Columns {
-    Columns {
-        ids: column(data, 0),
-        counts: column(data, 2),
-        flags: column(data, 4),
-        rows: data.len() / 6,
+impl Columns {
+    pub fn read(data: &[u8]) -> Columns {
+        Columns {
+            ids: column(data, 0),
+            counts: column(data, 2),
+            flags: column(data, 4),
+            rows: data.len() / 6,
+        }
     }
-}
 
-// The answer to an id is the row's where the next row has that id, and else unknown.
-fn same_entry(e: Entry, listed: bool, count: u16, flag: u16) -> bool {
-    match e {
-        Entry::Unknown => !listed,
-        Entry::Listed { count: c, flag: f } => {
-            if !listed {
-                return false;
-            }
-            if c != count {
-                return false;
-            }
-            f == flag
+    pub fn list(&self) -> CodeList<'_> {
+        CodeList {
+            ids: cells::part(&self.ids, 0, self.rows),
+            counts: cells::part(&self.counts, 0, self.rows),
+            flags: cells::part(&self.flags, 0, self.rows),
         }
     }
 }
 
-fn front(column: &[u16], n: usize) -> &[u16] {
-    if n <= column.len() {
-        return &column[0..n];
-    }
-    column
-}
-
-pub fn replay(data: &[u8]) -> Tally {
-    let ids = column(data, 0);
-    let counts = column(data, 2);
-    let flags = column(data, 4);
-    let rows = data.len() / 6;
-    let mut t = tally::none();
+// The answer to an id is the row's where the next row has that id, and else there is none.
+pub fn replay(columns: &Columns) -> Tally {
+    let list = columns.list();
+    let mut tally = Tally::default();
     let mut row: usize = 0;
-    let mut id: usize = 0;
-    while id < 65536 {
-        let wanted = (id % 65536) as u16;
-        let mut listed = false;
-        if row < rows {
-            listed = cells::at(&ids, row) == wanted;
-        }
-        let e = codes::lookup(
-            front(&ids, rows),
-            front(&counts, rows),
-            front(&flags, rows),
-            wanted,
-        );
-        let same = same_entry(
-            e,
-            listed,
-            cells::at(&counts, row),
-            cells::at(&flags, row),
-        );
-        t = tally::one_more(t, same);
-        if listed {
+    for id in 0..=65535u16 {
+        let mut recorded = None;
+        if row < list.ids.len() && cells::at(list.ids, row) == id {
+            recorded = Some(Listed {
+                count: cells::at(list.counts, row),
+                flag: cells::at(list.flags, row),
+            });
             row = row.wrapping_add(1);
         }
-        id += 1;
+        tally.count(codes::lookup(&list, id) == recorded);
     }
-    t
+    tally
 }

@@ -51,48 +51,34 @@ fn load(rt: &(impl Files + Eprint), path: &str, buffer: &mut [u8]) -> io::Result
     }
 }
 
-fn report(rt: &impl Print, name: &[u8], t: Tally) -> io::Result<()> {
-    rt.write_all(name)?;
-    rt.write_all(b": ")?;
-    rt.print(t.entries)?;
-    rt.write_all(b" entries, ")?;
-    rt.print(t.differences)?;
-    rt.write_all(b" differences\n")
+fn report(rt: &impl Print, name: &str, t: Tally) -> io::Result<()> {
+    println!(rt;
+        "{name}: {} entries, {} differences",
+        t.entries, t.differences
+    )
 }
 
 fn main(rt: HostRuntime) -> io::Result<()> {
     let mut buffer = [0u8; 262144];
     let n = load(&rt, "tables.bin", &mut buffer)?;
-    report(&rt, b"tables.bin", rows::replay(tally::part(&buffer, 0, n)))?;
+    report(&rt, "tables.bin", rows::replay(tally::part(&buffer, 0, n)))?;
     let n = load(&rt, "code-list.bin", &mut buffer)?;
-    report(
-        &rt,
-        b"code-list.bin",
-        lists::replay(tally::part(&buffer, 0, n)),
-    )?;
-    let list = lists::listed(tally::part(&buffer, 0, n));
+    let columns = lists::Columns::read(tally::part(&buffer, 0, n));
+    report(&rt, "code-list.bin", lists::replay(&columns))?;
+    let list = columns.list();
     let n = load(&rt, "bodies.bin", &mut buffer)?;
     report(
         &rt,
-        b"bodies.bin",
+        "bodies.bin",
         bodies::replay(tally::part(&buffer, 0, n)),
     )?;
     let n = load(&rt, "targets.bin", &mut buffer)?;
-    report(
-        &rt,
-        b"targets.bin",
-        bodies::replay_targets(tally::part(&buffer, 0, n)),
-    )?;
+    let targets = bodies::replay_targets(tally::part(&buffer, 0, n));
+    report(&rt, "targets.bin", targets)?;
     let n = load(&rt, "programs.bin", &mut buffer)?;
-    report(
-        &rt,
-        b"programs.bin",
-        programs::replay(list, tally::part(&buffer, 0, n)),
-    )?;
+    let programs = programs::replay(&list, tally::part(&buffer, 0, n));
+    report(&rt, "programs.bin", programs)?;
     let n = load(&rt, "pools.bin", &mut buffer)?;
-    report(
-        &rt,
-        b"pools.bin",
-        pools::replay(list, tally::part(&buffer, 0, n)),
-    )
+    let pools = pools::replay(&list, tally::part(&buffer, 0, n));
+    report(&rt, "pools.bin", pools)
 }

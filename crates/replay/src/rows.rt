@@ -1,31 +1,16 @@
 // tables.bin: the size, stack effect and temp effect of each byte, six bytes a row.
 use crate::tally;
 use crate::tally::Tally;
-use tables::{Move, TempEffect};
-
-fn temp_code(e: TempEffect) -> u8 {
-    match e {
-        TempEffect::Keeps => 0,
-        TempEffect::Borrows => 1,
-        TempEffect::GivesBack => 2,
-    }
-}
+use tables::{Effect, Move};
 
 // The effect as its row has it: kind, takes, leaves.
-fn same_move(m: Move, kind: u8, takes: u8, leaves: u8) -> bool {
-    match m {
-        Move::Fixed(e) => {
-            if kind != 1 {
-                return false;
-            }
-            if e.takes != takes as u16 {
-                return false;
-            }
-            e.leaves == leaves as u16
-        }
-        Move::Builtin => kind == 2,
-        Move::Call => kind == 3,
-        Move::Method => kind == 4,
+fn recorded_move(kind: u8, takes: u8, leaves: u8) -> Option<Move> {
+    match kind {
+        1 => Some(Move::Fixed(Effect::new(takes as u16, leaves as u16))),
+        2 => Some(Move::Builtin),
+        3 => Some(Move::Call),
+        4 => Some(Move::Method),
+        _ => None,
     }
 }
 
@@ -39,23 +24,17 @@ fn same_row(sizes: &[u8; 256], words: &[u16; 256], data: &[u8], op: u8) -> bool 
     if size == 0 {
         return kind == 0;
     }
-    if temp_code(tables::temp_in(words, op)) != tally::byte(data, row, 4) {
-        return false;
-    }
-    let takes = tally::byte(data, row, 2);
-    let leaves = tally::byte(data, row, 3);
-    same_move(tables::move_in(words, op), kind, takes, leaves)
+    let recorded = recorded_move(kind, tally::byte(data, row, 2), tally::byte(data, row, 3));
+    Some(tables::move_in(words, op)) == recorded
+        && tables::temp_in(words, op) as u8 == tally::byte(data, row, 4)
 }
 
 pub fn replay(data: &[u8]) -> Tally {
     let sizes = tables::sizes();
     let words = tables::words();
-    let mut t = tally::none();
-    let mut op: usize = 0;
-    while op < 256 {
-        let same = same_row(&sizes, &words, data, (op % 256) as u8);
-        t = tally::one_more(t, same);
-        op += 1;
+    let mut tally = Tally::default();
+    for op in 0..=255u8 {
+        tally.count(same_row(&sizes, &words, data, op));
     }
-    t
+    tally
 }

@@ -1,41 +1,43 @@
 // How many entries were replayed and how many of them differed; and the part of a file that an entry is.
-#[derive(Clone, Copy)]
+#[derive(Clone, Copy, Default)]
 pub struct Tally {
     pub entries: u64,
     pub differences: u64,
 }
 
-pub fn none() -> Tally {
-    Tally {
-        entries: 0,
-        differences: 0,
+impl Tally {
+    // One entry more, be it the same or not.
+    pub fn count(&mut self, same: bool) {
+        self.entries = self.entries.wrapping_add(1);
+        if !same {
+            self.differences = self.differences.wrapping_add(1);
+        }
     }
 }
 
-pub fn one_more(t: Tally, same: bool) -> Tally {
-    let entries = t.entries.wrapping_add(1);
-    if same {
-        return Tally {
-            entries,
-            differences: t.differences,
-        };
+// Counts the entries of a file: `entry` says of the place where one begins how long it is, and whether it is the same. One that has no length, or is
+// not all there, differs and ends the file.
+pub fn each<F: Fn(usize) -> (usize, bool)>(data: &[u8], entry: F) -> Tally
+    requires { F.IsAlwaysCallable entry }
+{
+    let mut tally = Tally::default();
+    let mut at: usize = 0;
+    while at < data.len() {
+        let (length, same) = entry(at);
+        if length == 0 || data.len() - at < length {
+            tally.count(false);
+            return tally;
+        }
+        tally.count(same);
+        at += length;
     }
-    Tally {
-        entries,
-        differences: t.differences.wrapping_add(1),
-    }
+    tally
 }
 
 // n bytes from a place on, or none where they are not all there.
 pub fn part(data: &[u8], from: usize, n: usize) -> &[u8] {
-    if data.len() < from {
-        return &data[0..0];
-    }
-    if data.len() - from < n {
-        return &data[0..0];
-    }
-    let to = from + n;
-    &data[from..to]
+    let found = cells::part(data, from, n);
+    if found.len() == n { found } else { &[] }
 }
 
 // The byte that stands i bytes after a place.
@@ -46,4 +48,9 @@ pub fn byte(data: &[u8], at: usize, i: usize) -> u8 {
 // Two bytes, low byte first.
 pub fn word(data: &[u8], at: usize) -> u16 {
     flow::word_at(data, at)
+}
+
+// Four bytes, low byte first.
+pub fn double_word(data: &[u8], at: usize) -> u32 {
+    u32::from(word(data, at)) + u32::from(word(data, at.wrapping_add(2))) * 65536
 }
