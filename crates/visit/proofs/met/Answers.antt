@@ -9,8 +9,8 @@ returns-then-f-ge128 c =
     let a = c.args in
     met_unknown (graph_in a.cells.now a.weights.now) a.pool a.f a.state c.requires c.if-f-ge128.true
 
-pub returns-then-colour-eq0 : goal.returns-then-colour-eq0
-returns-then-colour-eq0 c =
+pub returns-then-state-f-eq-NOT_YET_OPEN : goal.returns-then-state-f-eq-NOT_YET_OPEN
+returns-then-state-f-eq-NOT_YET_OPEN c =
     let a = c.args in
     let visited = c.total in
     met_new (graph_in a.cells.now a.weights.now) a.pool a.f a.state c.requires c.if-f-ge128.false
@@ -20,4 +20,4 @@ pub returns : goal.returns
 returns c =
     let a = c.args in
     met_again (graph_in a.cells.now a.weights.now) a.pool a.f a.state c.requires c.if-f-ge128.false
-    c.if-colour-eq0.false
+    c.if-state-f-eq-NOT_YET_OPEN.false
