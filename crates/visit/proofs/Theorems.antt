@@ -11,7 +11,7 @@
 --     names_overrun          20 names a function that an entry reaches, with the largest weight of its chains, which passes the pool
 --     same_total             a total does not depend on the entry: a function that is closed with a total has it as an entry too
 use Rattle.std.specs.Prelude.{◌≡◌, refl, Bool, true, false, List, ◌↔◌, ◌⊎◌, ℕ, ◌≤◌, ◌<◌, min, ltb, Ok, Err}
-use Rattle.std.proofs.Common.{sym, ◌∙◌, true≢false, inl, inr, le_trans, arith, ltb-true, ltb-false}
+use Rattle.std.proofs.Common.{sym, true≢false, inl, inr, le_trans, arith, ltb-true, ltb-false}
 use Rattle.std.proofs.Math.Logic.{⊎_elim}
 use Rattle.visit.specs.declared.Overrun.{Overrun}
 use Rattle.visit.specs.declared.Overrun.TheVariants.{Cycle, Over}

@@ -138,9 +138,9 @@ pub fn visit_entries(
     };
     let mut best: u16 = 0;
     for &entry in entries {
-        let (t, next) = met(cells, weights, pool, entry_row(ids, entry), state)?;
+        let (total, next) = met(cells, weights, pool, entry_row(ids, entry), state)?;
         state = next;
-        best = best.max(t);
+        best = best.max(total);
     }
     Ok(best)
 }

@@ -14,8 +14,8 @@ loop-entry-init c =
     entries_begin (graph_in a.cells.now a.weights.now) a.pool a.ids.now a.entries.now fresh
     (fresh_rest (graph_in a.cells.now a.weights.now) a.pool)
 
-pub returns-in_err-t : goal.returns-in_err-t
-returns-in_err-t c =
+pub returns-in_err-total : goal.returns-in_err-total
+returns-in_err-total c =
     let a = c.args in
     let l = c.loop-entry in
     let met = c.met in
@@ -23,7 +23,7 @@ returns-in_err-t c =
     let p = err_from_is_err_and c.from_residual.result c.from_residual.ensures.1 in
     rw (p.1, p.2)
     (entry_failed (graph_in a.cells.now a.weights.now) a.pool a.ids.now a.entries.now l.best l.state l.entry-index l.invariant
-    c.loop-entry-test.true row.result row.ensures met.result met.ensures _ c.in_err-t.was)
+    c.loop-entry-test.true row.result row.ensures met.result met.ensures _ c.in_err-total.was)
 
 pub loop-entry-preserved : goal.loop-entry-preserved
 loop-entry-preserved c =
@@ -32,7 +32,7 @@ loop-entry-preserved c =
     let met = c.met in
     let row = c.entry_row in
     entry_fine (graph_in a.cells.now a.weights.now) a.pool a.ids.now a.entries.now l.best l.state l.entry-index l.invariant
-    c.loop-entry-test.true row.result row.ensures met.result met.ensures _ _ c.in_ok-t.was c.max-best.result c.max-best.ensures
+    c.loop-entry-test.true row.result row.ensures met.result met.ensures _ _ c.in_ok-total.was c.max-best.result c.max-best.ensures
 
 pub returns : goal.returns
 returns c =
