@@ -19,7 +19,9 @@ pub enum Overrun {
 
 // The colours of a function: a byte each, so that those of all 128 travel by value.
 const NOT_YET_OPEN: u8 = 0;
+
 const OPEN: u8 = 1;
+
 const CLOSED: u8 = 2;
 
 // A colour and a total for each of the 128 functions.

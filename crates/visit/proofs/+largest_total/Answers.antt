@@ -47,14 +47,14 @@ largest-loop-c-preserved t c =
     let part = c.part-c-items in
     let most : (t : ℕ) → c.match-state-g.t ≡ t → c.max-best.result ≡ max l.best t = λ t e. c.max-best.ensures ∙ ap (max l.best) e in
     elim c.match-state-g.branch [
-    | largest-in-0+in_ok-t-in-0 w ↦
-        rw w.state-is
-        (row_fine a.cells.now a.weights.now a.pool a.f a.s part.result.now part.ensures l.best l.state l.c-index l.invariant
-        c.loop-c-test.true c.if-c-eq0.false c.if-g-ge128.false w.in-0.is w.total.result w.total.ensures _ _ w.in_ok-t-in-0.was _ (most _ w.t-is))
-    | largest-in_default w ↦
-        rw w.state-is
-        (row_closed a.cells.now a.weights.now a.pool a.f a.s part.result.now part.ensures l.best l.state l.c-index l.invariant
-        c.loop-c-test.true c.if-c-eq0.false c.if-g-ge128.false (λ e. absurd (omega arith)) (λ e. absurd (omega arith)) _ (most _ w.t-is))
+      | largest-in-0+in_ok-t-in-0 w ↦
+          rw w.state-is
+          (row_fine a.cells.now a.weights.now a.pool a.f a.s part.result.now part.ensures l.best l.state l.c-index l.invariant
+          c.loop-c-test.true c.if-c-eq0.false c.if-g-ge128.false w.in-0.is w.total.result w.total.ensures _ _ w.in_ok-t-in-0.was _ (most _ w.t-is))
+      | largest-in_default w ↦
+          rw w.state-is
+          (row_closed a.cells.now a.weights.now a.pool a.f a.s part.result.now part.ensures l.best l.state l.c-index l.invariant
+          c.loop-c-test.true c.if-c-eq0.false c.if-g-ge128.false (λ e. absurd (omega arith)) (λ e. absurd (omega arith)) _ (most _ w.t-is))
     ]
 
 pub largest-returns-after-loop-c : goal.largest-returns-after-loop-c
