@@ -17,59 +17,53 @@ pub enum Overrun {
     Over(usize, u16),
 }
 
-// The colours of a function: a byte each, so that those of all 128 travel by value.
+// The colours of a function.
 const NOT_YET_OPEN: u8 = 0;
 
 const OPEN: u8 = 1;
 
 const CLOSED: u8 = 2;
 
-// A colour and a total for each of the 128 functions.
+// A colour and a total for each of the 128 functions: 01 asks that they travel by value, into a visit and out of it.
 #[derive(Drop)]
 pub struct State {
     pub colours: [u8; 128],
     pub totals: [u16; 128],
 }
 
+// What a visit reads: the callees of each function in 128 cells, its weight, and the pool.
+#[derive(Clone, Copy)]
+struct Calls<'a> {
+    cells: &'a [u8],
+    weights: &'a [u16],
+    pool: u16,
+}
+
 // The total of a function that is not yet open: it opens, and closes with its weight and the largest among its callees.
 #[cycle(largest_total)]
-fn total(
-    cells: &[u8],
-    weights: &[u16],
-    pool: u16,
-    f: usize,
-    s: State,
-) -> Result<(u16, State), Overrun>
-    requires { (f < 128) × (get_or s.colours f 0 ≡ 0) × Kept (graph_in cells.now weights.now) pool s }
-    ensures { Visits (graph_in cells.now weights.now) pool f s result }
+fn total(calls: &Calls<'_>, f: usize, mut state: State) -> Result<(u16, State), Overrun>
+    requires { (f < 128) × (get_or state.colours f 0 ≡ 0) × Kept (graph_in calls.now.cells.now calls.now.weights.now) calls.now.pool state }
+    ensures { Visits (graph_in calls.now.cells.now calls.now.weights.now) calls.now.pool f state result }
 {
-    let mut open = s;
-    open.colours[f] = OPEN;
-    let (best, mut done) = largest(cells, weights, pool, f, open)?;
-    let sum = cells::at(weights, f).saturating_add(best);
-    if pool < sum {
+    state.colours[f] = OPEN;
+    let (best, mut state) = largest(calls, f, state)?;
+    let sum = cells::at(calls.weights, f).saturating_add(best);
+    if calls.pool < sum {
         return Err(Overrun::Over(f, sum));
     }
-    done.colours[f] = CLOSED;
-    done.totals[f] = sum;
-    Ok((sum, done))
+    state.colours[f] = CLOSED;
+    state.totals[f] = sum;
+    Ok((sum, state))
 }
 
 // The largest total among the callees of f, along its row.
 #[cycle(largest_total)]
-fn largest(
-    cells: &[u8],
-    weights: &[u16],
-    pool: u16,
-    f: usize,
-    s: State,
-) -> Result<(u16, State), Overrun>
-    requires { (f < 128) × Kept (graph_in cells.now weights.now) pool s }
-    ensures { Walks (graph_in cells.now weights.now) pool f s result }
+fn largest(calls: &Calls<'_>, f: usize, mut state: State) -> Result<(u16, State), Overrun>
+    requires { (f < 128) × Kept (graph_in calls.now.cells.now calls.now.weights.now) calls.now.pool state }
+    ensures { Walks (graph_in calls.now.cells.now calls.now.weights.now) calls.now.pool f state result }
 {
     let mut best: u16 = 0;
-    let mut state = s;
-    for &c in cells::part(cells, f * 128, 128) {
+    for &c in cells::part(calls.cells, f * 128, 128) {
         if c == 0 {
             break;
         }
@@ -80,7 +74,7 @@ fn largest(
         let t = match state.colours[g] {
             OPEN => return Err(Overrun::Cycle(g)),
             NOT_YET_OPEN => {
-                let (t, next) = total(cells, weights, pool, g, state)?;
+                let (t, next) = total(calls, g, state)?;
                 state = next;
                 t
             }
@@ -92,21 +86,15 @@ fn largest(
 }
 
 // An entry while no function is open: a row past 128 is no function, and weighs 0.
-fn met(
-    cells: &[u8],
-    weights: &[u16],
-    pool: u16,
-    f: usize,
-    state: State,
-) -> Result<(u16, State), Overrun>
-    requires { AtRest (graph_in cells.now weights.now) pool state }
-    ensures { Meets (graph_in cells.now weights.now) pool f result }
+fn met(calls: &Calls<'_>, f: usize, state: State) -> Result<(u16, State), Overrun>
+    requires { AtRest (graph_in calls.now.cells.now calls.now.weights.now) calls.now.pool state }
+    ensures { Meets (graph_in calls.now.cells.now calls.now.weights.now) calls.now.pool f result }
 {
     if 128 <= f {
         return Ok((0, state));
     }
     if state.colours[f] == NOT_YET_OPEN {
-        return total(cells, weights, pool, f, state);
+        return total(calls, f, state);
     }
     let t = state.totals[f];
     Ok((t, state))
@@ -134,13 +122,18 @@ pub fn visit_entries(
 ) -> Result<u16, Overrun>
     ensures { result ≡ visit_of (graph_in cells.now weights.now) pool (entry_rows ids.now entries.now) }
 {
+    let calls = Calls {
+        cells,
+        weights,
+        pool,
+    };
     let mut state = State {
         colours: [NOT_YET_OPEN; 128],
         totals: [0; 128],
     };
     let mut best: u16 = 0;
     for &entry in entries {
-        let (total, next) = met(cells, weights, pool, entry_row(ids, entry), state)?;
+        let (total, next) = met(&calls, entry_row(ids, entry), state)?;
         state = next;
         best = best.max(total);
     }

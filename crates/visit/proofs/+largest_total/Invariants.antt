@@ -6,10 +6,10 @@ use Rattle.visit.proofs.Steps.{Along}
 use Rattle.visit.proofs.+largest_total.Given as goal
 
 abbrev pub decreases-largest : goal.decreases-largest
-decreases-largest l = 2 * unopened l.s.colours + 1
+decreases-largest l = 2 * unopened l.state.colours + 1
 
 abbrev pub decreases-total : goal.decreases-total
-decreases-total l = 2 * unopened l.s.colours
+decreases-total l = 2 * unopened l.state.colours
 
 abbrev pub invariant-largest-loop-c : goal.invariant-largest-loop-c
-invariant-largest-loop-c l = Along l.cells l.weights l.pool l.f l.fn.s l.best l.state l.c-index
+invariant-largest-loop-c l = Along l.calls.cells.now l.calls.weights.now l.calls.pool l.f l.fn.state l.best l.state l.c-index
