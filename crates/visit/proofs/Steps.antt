@@ -15,10 +15,11 @@ use borrow.Author.Tests.{eq-eqb}
 use Rattle.std.specs.Prelude.{Result, Ok, Err}
 use Rattle.visit.specs.declared.Overrun.{Overrun}
 use Rattle.visit.specs.declared.Overrun.TheVariants.{Cycle, Over}
+use Rattle.visit.specs.declared.CallGraph.{CallGraph}
 use Rattle.visit.specs.declared.State.{State}
 use Rattle.visit.specs.Graph.{Graph, Among, Calls}
 use Rattle.visit.specs.Visit.{Visited, onward, callee_of, largest_of, sum_of, closes, total_of, met_of, none}
-use Rattle.visit.specs.Cells.{at_cell, callees_from, callees_in, graph_in}
+use Rattle.visit.specs.Cells.{at_cell, callees_from, callees_in, graph_of}
 use Rattle.visit.proofs.Answers.{handed, closes_over, closes_within, callee_unknown, callee_open, callee_new, largest_next, largest_stops}
 use Rattle.visit.specs.Fuel.{total_step}
 use Rattle.visit.proofs.Exact.{independent}
@@ -57,9 +58,15 @@ unfolding at_cell
 cell_callee zero gs n = absurd (n refl)
 cell_callee (suc g) gs n = let e : suc g - 1 ≡ g = omega arith in rw e
 
-module _ (cells weights : List ℕ) (pool f : ℕ) (s : State) where
+module _ (graph : CallGraph) (f : ℕ) (s : State) where
+  abbrev cells : List ℕ
+  cells = graph.cells.now
+
+  abbrev pool : ℕ
+  pool = graph.pool
+
   abbrev G : Graph
-  G = graph_in cells weights
+  G = graph_of graph
 
   abbrev is_open : ℕ → Bool
   is_open = open_in s.colours

@@ -5,7 +5,7 @@
 ghost use Rattle.std.specs.Prelude.{◌≡◌, ◌<◌, get_or};
 ghost use Rattle.program.specs.Seat.{seat_of};
 ghost use Rattle.visit.specs.Visit.{visit_of};
-ghost use Rattle.visit.specs.Cells.{graph_in, row_at, entry_rows};
+ghost use Rattle.visit.specs.Cells.{graph_in, graph_of, row_at, entry_rows};
 ghost use Rattle.visit.specs.Marks.{Kept, Visits, Walks, AtRest, Meets};
 
 use codes::Place;
@@ -31,9 +31,9 @@ pub struct State {
     pub totals: [u16; 128],
 }
 
-// What a visit reads: the callees of each function in 128 cells, its weight, and the pool.
+// What a visit reads: the callees of each function in 128 cells of its own, its weight, and the pool.
 #[derive(Clone, Copy)]
-struct Calls<'a> {
+struct CallGraph<'a> {
     cells: &'a [u8],
     weights: &'a [u16],
     pool: u16,
@@ -41,14 +41,14 @@ struct Calls<'a> {
 
 // The total of a function that is not yet open: it opens, and closes with its weight and the largest among its callees.
 #[cycle(largest_total)]
-fn total(calls: &Calls<'_>, f: usize, mut state: State) -> Result<(u16, State), Overrun>
-    requires { (f < 128) × (get_or state.colours f 0 ≡ 0) × Kept (graph_in calls.now.cells.now calls.now.weights.now) calls.now.pool state }
-    ensures { Visits (graph_in calls.now.cells.now calls.now.weights.now) calls.now.pool f state result }
+fn total(graph: &CallGraph<'_>, f: usize, mut state: State) -> Result<(u16, State), Overrun>
+    requires { (f < 128) × (get_or state.colours f 0 ≡ 0) × Kept (graph_of graph.now) graph.now.pool state }
+    ensures { Visits (graph_of graph.now) graph.now.pool f state result }
 {
     state.colours[f] = OPEN;
-    let (best, mut state) = largest(calls, f, state)?;
-    let sum = cells::at(calls.weights, f).saturating_add(best);
-    if calls.pool < sum {
+    let (best, mut state) = largest(graph, f, state)?;
+    let sum = cells::at(graph.weights, f).saturating_add(best);
+    if graph.pool < sum {
         return Err(Overrun::Over(f, sum));
     }
     state.colours[f] = CLOSED;
@@ -58,12 +58,12 @@ fn total(calls: &Calls<'_>, f: usize, mut state: State) -> Result<(u16, State), 
 
 // The largest total among the callees of f, along its row.
 #[cycle(largest_total)]
-fn largest(calls: &Calls<'_>, f: usize, mut state: State) -> Result<(u16, State), Overrun>
-    requires { (f < 128) × Kept (graph_in calls.now.cells.now calls.now.weights.now) calls.now.pool state }
-    ensures { Walks (graph_in calls.now.cells.now calls.now.weights.now) calls.now.pool f state result }
+fn largest(graph: &CallGraph<'_>, f: usize, mut state: State) -> Result<(u16, State), Overrun>
+    requires { (f < 128) × Kept (graph_of graph.now) graph.now.pool state }
+    ensures { Walks (graph_of graph.now) graph.now.pool f state result }
 {
     let mut best: u16 = 0;
-    for &c in cells::part(calls.cells, f * 128, 128) {
+    for &c in cells::part(graph.cells, f * 128, 128) {
         if c == 0 {
             break;
         }
@@ -74,7 +74,7 @@ fn largest(calls: &Calls<'_>, f: usize, mut state: State) -> Result<(u16, State)
         let t = match state.colours[g] {
             OPEN => return Err(Overrun::Cycle(g)),
             NOT_YET_OPEN => {
-                let (t, next) = total(calls, g, state)?;
+                let (t, next) = total(graph, g, state)?;
                 state = next;
                 t
             }
@@ -86,15 +86,15 @@ fn largest(calls: &Calls<'_>, f: usize, mut state: State) -> Result<(u16, State)
 }
 
 // An entry while no function is open: a row past 128 is no function, and weighs 0.
-fn met(calls: &Calls<'_>, f: usize, state: State) -> Result<(u16, State), Overrun>
-    requires { AtRest (graph_in calls.now.cells.now calls.now.weights.now) calls.now.pool state }
-    ensures { Meets (graph_in calls.now.cells.now calls.now.weights.now) calls.now.pool f result }
+fn met(graph: &CallGraph<'_>, f: usize, state: State) -> Result<(u16, State), Overrun>
+    requires { AtRest (graph_of graph.now) graph.now.pool state }
+    ensures { Meets (graph_of graph.now) graph.now.pool f result }
 {
     if 128 <= f {
         return Ok((0, state));
     }
     if state.colours[f] == NOT_YET_OPEN {
-        return total(calls, f, state);
+        return total(graph, f, state);
     }
     let t = state.totals[f];
     Ok((t, state))
@@ -122,7 +122,7 @@ pub fn visit_entries(
 ) -> Result<u16, Overrun>
     ensures { result ≡ visit_of (graph_in cells.now weights.now) pool (entry_rows ids.now entries.now) }
 {
-    let calls = Calls {
+    let graph = CallGraph {
         cells,
         weights,
         pool,
@@ -133,7 +133,7 @@ pub fn visit_entries(
     };
     let mut best: u16 = 0;
     for &entry in entries {
-        let (total, next) = met(&calls, entry_row(ids, entry), state)?;
+        let (total, next) = met(&graph, entry_row(ids, entry), state)?;
         state = next;
         best = best.max(total);
     }

@@ -1,6 +1,6 @@
 -- The cycle of calls of `visit::total` and `visit::largest`: each turn and return is a law of `Steps`. Assumes nothing.
 use Rattle.std.proofs.Common.{◌≡◌, ℕ, ap, ◌∙◌, set, max, arith}
-use Rattle.visit.specs.Cells.{graph_in}
+use Rattle.visit.specs.Cells.{graph_of}
 use Rattle.visit.specs.Marks.{unopened}
 use Rattle.visit.proofs.Colours.{unopened_open, into, opened_kept}
 use Rattle.visit.proofs.Steps.{row_begins, row_ends, row_unknown, row_open, row_closed, row_failed, row_fine, closes_failed, closes_above, closes_below}
@@ -12,14 +12,14 @@ use Rattle.std.proofs.lemmas.List.{get_or_past}
 pub largest-loop-c-init : goal.largest-loop-c-init
 largest-loop-c-init t c =
     let a = c.args in
-    row_begins a.calls.now.cells.now a.calls.now.weights.now a.calls.now.pool a.f a.state c.requires.1
+    row_begins a.graph.now a.f a.state c.requires.1
 
 pub largest-loop-c-preserved-then-g-ge128 : goal.largest-loop-c-preserved-then-g-ge128
 largest-loop-c-preserved-then-g-ge128 t c =
     let a = c.args in
     let l = c.loop-c in
     let part = c.part-c-items in
-    row_unknown a.calls.now.cells.now a.calls.now.weights.now a.calls.now.pool a.f a.state part.result.now part.ensures l.best l.state l.c-index l.invariant
+    row_unknown a.graph.now a.f a.state part.result.now part.ensures l.best l.state l.c-index l.invariant
     c.loop-c-test.true c.if-c-eq0.false c.if-g-ge128.true
 
 pub largest-returns-in-1 : goal.largest-returns-in-1
@@ -27,7 +27,7 @@ largest-returns-in-1 t c =
     let a = c.args in
     let l = c.loop-c in
     let part = c.part-c-items in
-    row_open a.calls.now.cells.now a.calls.now.weights.now a.calls.now.pool a.f a.state part.result.now part.ensures l.best l.state l.c-index l.invariant
+    row_open a.graph.now a.f a.state part.result.now part.ensures l.best l.state l.c-index l.invariant
     c.loop-c-test.true c.if-c-eq0.false c.if-g-ge128.false c.in-1.is
 
 pub largest-returns-in_err-t-in-0 : goal.largest-returns-in_err-t-in-0
@@ -37,7 +37,7 @@ largest-returns-in_err-t-in-0 t c =
     let part = c.part-c-items in
     let p = err_from_is_err_and c.from_residual.result c.from_residual.ensures.1 in
     rw (p.1, p.2)
-    (row_failed a.calls.now.cells.now a.calls.now.weights.now a.calls.now.pool a.f a.state part.result.now part.ensures l.best l.state l.c-index l.invariant
+    (row_failed a.graph.now a.f a.state part.result.now part.ensures l.best l.state l.c-index l.invariant
     c.loop-c-test.true c.if-c-eq0.false c.if-g-ge128.false c.in-0.is c.total.result c.total.ensures _ c.in_err-t-in-0.was)
 
 pub largest-loop-c-preserved : goal.largest-loop-c-preserved
@@ -49,11 +49,11 @@ largest-loop-c-preserved t c =
     elim c.match-state-g.branch [
       | largest-in-0+in_ok-t-in-0 w ↦
           rw w.state-is
-          (row_fine a.calls.now.cells.now a.calls.now.weights.now a.calls.now.pool a.f a.state part.result.now part.ensures l.best l.state l.c-index l.invariant
+          (row_fine a.graph.now a.f a.state part.result.now part.ensures l.best l.state l.c-index l.invariant
           c.loop-c-test.true c.if-c-eq0.false c.if-g-ge128.false w.in-0.is w.total.result w.total.ensures _ _ w.in_ok-t-in-0.was _ (most _ w.t-is))
       | largest-in_default w ↦
           rw w.state-is
-          (row_closed a.calls.now.cells.now a.calls.now.weights.now a.calls.now.pool a.f a.state part.result.now part.ensures l.best l.state l.c-index l.invariant
+          (row_closed a.graph.now a.f a.state part.result.now part.ensures l.best l.state l.c-index l.invariant
           c.loop-c-test.true c.if-c-eq0.false c.if-g-ge128.false (λ e. absurd (omega arith)) (λ e. absurd (omega arith)) _ (most _ w.t-is))
     ]
 
@@ -62,7 +62,7 @@ largest-returns-after-loop-c t c =
     let a = c.args in
     let l = c.loop-c in
     let part = c.part-c-items in
-    row_ends a.calls.now.cells.now a.calls.now.weights.now a.calls.now.pool a.f a.state part.result.now part.ensures l.best l.state l.c-index l.invariant
+    row_ends a.graph.now a.f a.state part.result.now part.ensures l.best l.state l.c-index l.invariant
     (λ _. get_or_past part.result.now l.c-index 0 c.loop-c-test.false)
 
 pub largest-returns-then-c-eq0 : goal.largest-returns-then-c-eq0
@@ -70,7 +70,7 @@ largest-returns-then-c-eq0 t c =
     let a = c.args in
     let l = c.loop-c in
     let part = c.part-c-items in
-    row_ends a.calls.now.cells.now a.calls.now.weights.now a.calls.now.pool a.f a.state part.result.now part.ensures l.best l.state l.c-index l.invariant
+    row_ends a.graph.now a.f a.state part.result.now part.ensures l.best l.state l.c-index l.invariant
     (λ _. c.if-c-eq0.true)
 
 pub total-largest-requires : goal.total-largest-requires
@@ -79,7 +79,7 @@ total-largest-requires t c =
     let p = c.requires in (
       into t (unopened a.state.colours) (unopened (set a.state.colours a.f 1)) c.decreases
           (unopened_open a.state.colours a.f 0 (omega (arith, p.2.colours_long)) p.1),
-      (p.0, opened_kept (graph_in a.calls.now.cells.now a.calls.now.weights.now) a.calls.now.pool a.f a.state p.0 p.1 p.2),
+      (p.0, opened_kept (graph_of a.graph.now) a.graph.now.pool a.f a.state p.0 p.1 p.2),
     )
 
 pub total-returns-in_err-best : goal.total-returns-in_err-best
@@ -88,18 +88,18 @@ total-returns-in_err-best t c =
     let p = c.requires in
     let r = err_from_is_err_and c.from_residual.result c.from_residual.ensures.1 in
     rw (r.1, r.2)
-    (closes_failed (graph_in a.calls.now.cells.now a.calls.now.weights.now) a.calls.now.pool a.f a.state p.0 p.1 p.2 c.largest.result c.largest.ensures _ c.in_err-best.was)
+    (closes_failed (graph_of a.graph.now) a.graph.now.pool a.f a.state p.0 p.1 p.2 c.largest.result c.largest.ensures _ c.in_err-best.was)
 
-pub total-returns-then-calls-sum : goal.total-returns-then-calls-sum
-total-returns-then-calls-sum t c =
+pub total-returns-then-graph-sum : goal.total-returns-then-graph-sum
+total-returns-then-graph-sum t c =
     let a = c.args in
     let p = c.requires in
-    closes_above (graph_in a.calls.now.cells.now a.calls.now.weights.now) a.calls.now.pool a.f a.state p.0 p.1 p.2 c.largest.result c.largest.ensures
-    _ _ c.in_ok-best.was c.at.result c.saturating_add-sum.result c.at.ensures c.saturating_add-sum.ensures c.if-calls-sum.true
+    closes_above (graph_of a.graph.now) a.graph.now.pool a.f a.state p.0 p.1 p.2 c.largest.result c.largest.ensures
+    _ _ c.in_ok-best.was c.at.result c.saturating_add-sum.result c.at.ensures c.saturating_add-sum.ensures c.if-graph-sum.true
 
 pub total-returns : goal.total-returns
 total-returns t c =
     let a = c.args in
     let p = c.requires in
-    closes_below (graph_in a.calls.now.cells.now a.calls.now.weights.now) a.calls.now.pool a.f a.state p.0 p.1 p.2 c.largest.result c.largest.ensures
-    _ _ c.in_ok-best.was c.at.result c.saturating_add-sum.result c.at.ensures c.saturating_add-sum.ensures c.if-calls-sum.false
+    closes_below (graph_of a.graph.now) a.graph.now.pool a.f a.state p.0 p.1 p.2 c.largest.result c.largest.ensures
+    _ _ c.in_ok-best.was c.at.result c.saturating_add-sum.result c.at.ensures c.saturating_add-sum.ensures c.if-graph-sum.false

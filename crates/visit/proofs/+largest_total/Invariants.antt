@@ -12,4 +12,4 @@ abbrev pub decreases-total : goal.decreases-total
 decreases-total l = 2 * unopened l.state.colours
 
 abbrev pub invariant-largest-loop-c : goal.invariant-largest-loop-c
-invariant-largest-loop-c l = Along l.calls.cells.now l.calls.weights.now l.calls.pool l.f l.fn.state l.best l.state l.c-index
+invariant-largest-loop-c l = Along l.graph l.f l.fn.state l.best l.state l.c-index
