@@ -1,12 +1,13 @@
 -- The walk of a body that keeps the larger number at merges (01, "Pool check"), over any rules of an offset and a number of buffers. `numbers` has for
 -- each offset 0, or one more than its number; the queue is first-in first-out.
 -- Assumes nothing.
-use Rattle.std.specs.Prelude.{ℕ, zero, suc, ◌+◌, ◌-◌, ◌*◌, Bool, true, false, cond, List, [], ◌∷◌, ◌++◌, length, get_or, set, replicate, ltb, eqb}
+use Rattle.std.specs.Prelude.{ℕ, zero, suc, ◌+◌, ◌-◌, ◌*◌, Bool, true, false, cond, List, [], ◌∷◌, ◌++◌, length, get_or, set, replicate, ltb, eqb, Result, Ok, Err}
 use Rattle.buffers.specs.declared.Way.{Way}
 use Rattle.buffers.specs.declared.Way.TheVariants.{Ends, Astray, Goes, Forks}
 use Rattle.buffers.specs.declared.Tread.{Tread}
-use Rattle.buffers.specs.declared.Used.{Used}
-use Rattle.buffers.specs.declared.Used.TheVariants.{Undecodable, QueueFull, Uses}
+use Rattle.buffers.specs.declared.Usage as told
+use Rattle.buffers.specs.declared.Unwalked.{Unwalked}
+use Rattle.buffers.specs.declared.Unwalked.TheVariants.{Undecodable, QueueFull}
 
 -- what waits in the queue: an offset with a number of buffers
 pub record Entry : Type 0 where
@@ -102,13 +103,20 @@ unfoldable pub slack : ℕ → List ℕ → ℕ
 slack pool [] = 0
 slack pool (n ∷ numbers) = (pool + 1 - n) + slack pool numbers
 
--- what a walk answers, and the callees that it found
-abbrev pub used_of : Walked → Used
-used_of undecodable = Undecodable
-used_of crowded = QueueFull
-used_of unfinished = Undecodable
-used_of (walked numbers u) = Uses u.weight u.peak
+-- what a walk answers: its weight and its peak offset, or 22 or 23
+abbrev pub Used : Type 0
+Used = Result told.Usage Unwalked
 
+abbrev pub uses : ℕ → ℕ → Used
+uses weight peak = Ok (record { weight = weight; peak = peak })
+
+abbrev pub used_of : Walked → Used
+used_of undecodable = Err Undecodable
+used_of crowded = Err QueueFull
+used_of unfinished = Err Undecodable
+used_of (walked numbers u) = uses u.weight u.peak
+
+-- and the callees that it found
 abbrev pub callees_of : Walked → List ℕ
 callees_of undecodable = []
 callees_of crowded = []

@@ -4,7 +4,7 @@
 #![tactic(auto)]
 
 // Where control goes: the path ends, a branch has no legal target, one successor, or the branch target and the next instruction.
-#[derive(Drop)]
+#[derive(Clone, Copy, PartialEq, Eq, Debug)]
 pub enum Way {
     Ends,
     Astray,
@@ -14,17 +14,23 @@ pub enum Way {
 
 // What treading an instruction gives: the sum that it makes, the cell of the function that it opens (the function's row and 1; 0 for none), and the
 // way on.
-#[derive(Drop)]
+#[derive(Clone, Copy, PartialEq, Eq, Debug)]
 pub struct Tread {
     pub sum: u32,
     pub opens: u8,
     pub way: Way,
 }
 
-// What a body's walk answers: 22, 23, or its weight and its peak offset.
-#[derive(Drop)]
-pub enum Used {
+// What a body's walk gives: its weight and its peak offset.
+#[derive(Clone, Copy, PartialEq, Eq, Debug)]
+pub struct Usage {
+    pub weight: u32,
+    pub peak: usize,
+}
+
+// Why a body's walk gives none: 22, or 23.
+#[derive(Clone, Copy, PartialEq, Eq, Debug)]
+pub enum Unwalked {
     Undecodable,
     QueueFull,
-    Uses { weight: u32, peak: usize },
 }

@@ -1,2 +1,3 @@
 pub mod Callees
 pub mod Laws
+pub mod Stated

@@ -13,7 +13,7 @@ use lib.Dec.{eqb}
 use lib.ListN.{length, get_or, set, replicate, length-set, length-replicate}
 use lib.Seq.{get_or-set_same, get_or-set_other}
 use borrow.Author.Tests.{eq-eqb, ne_eqb}
-use Rattle.visit.specs.declared.Visited.TheVariants.{Fine}
+use Rattle.std.specs.Prelude.{Ok}
 use Rattle.visit.specs.declared.State.{State}
 use Rattle.visit.specs.Graph.{Graph, Calls, Reaches, same, more}
 use Rattle.visit.specs.Visit.{callee_of, opening, total_of, none}
@@ -121,7 +121,7 @@ module _ (G : Graph) (pool : ℕ) where
       by (no n) = rw (get_or-set_other r.colours f g 2 0 n) c
 
   module _ (f t : ℕ) (s r : State) (hf : f < 128) (new : get_or s.colours f 0 ≡ 0) (K : Kept G pool s) (A : After G pool (opened f s) r)
-      (own : total_of G pool none f ≡ Fine t) (row : (h : ℕ) → Calls G f h → ClosedIn r h) where
+      (own : total_of G pool none f ≡ Ok t) (row : (h : ℕ) → Calls G f h → ClosedIn r h) where
     hr : f < length r.colours
     hr = omega (arith, A.kept.colours_long)
 
@@ -139,9 +139,9 @@ module _ (G : Graph) (pool : ℕ) where
       callees = λ g h c k. closed_still f t r hr h (callee_by g h c k (ℕ_discrete g f));
     }
       where
-        total_by_lem : (g : ℕ) → ClosedIn (closed f t r) g → Dec (g ≡ f) → total_of G pool none g ≡ Fine (get_or (set r.totals f t) g 0)
-        total_by_lem g c (yes q) = rw q (own ∙ ap Fine (sym closed_total))
-        total_by_lem g c (no n) = A.kept.total g (rw (get_or-set_other r.colours f g 2 0 n) at c) ∙ ap Fine (sym (get_or-set_other r.totals f g t 0 n))
+        total_by_lem : (g : ℕ) → ClosedIn (closed f t r) g → Dec (g ≡ f) → total_of G pool none g ≡ Ok (get_or (set r.totals f t) g 0)
+        total_by_lem g c (yes q) = rw q (own ∙ ap Ok (sym closed_total))
+        total_by_lem g c (no n) = A.kept.total g (rw (get_or-set_other r.colours f g 2 0 n) at c) ∙ ap Ok (sym (get_or-set_other r.totals f g t 0 n))
 
         callee_by : (g h : ℕ) → ClosedIn (closed f t r) g → Calls G g h → Dec (g ≡ f) → ClosedIn r h
         callee_by g h c k (yes q) = row h (subst (λ (x : ℕ). Calls G x h) q k)
@@ -164,7 +164,7 @@ module _ (G : Graph) (pool : ℕ) where
   closed_not_open s g c = open_not s.colours g (λ z. omega arith)
 
   pub met_closed : (s : State) → Kept G pool s → (g : ℕ) → g < 128 → ClosedIn s g → (is_open : ℕ → Bool) → open_in s.colours ≡ is_open
-      → callee_of is_open (total_of G pool is_open) g ≡ Fine (get_or s.totals g 0)
+      → callee_of is_open (total_of G pool is_open) g ≡ Ok (get_or s.totals g 0)
   met_closed s K g hg c is_open e =
       callee_new is_open (total_of G pool is_open) g hg (away g c)
       ∙ independent G pool none g hg refl (get_or s.totals g 0) (K.total g c) is_open (λ x r. away x (closed_reached s K r c))

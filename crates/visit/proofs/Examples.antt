@@ -1,9 +1,8 @@
 -- 01's pool examples, computed from the definition, and the cases that are easy to get wrong. Assumes nothing.
-use Rattle.std.specs.Prelude.{◌≡◌, refl, List, [], ◌∷◌, set, replicate}
-use Rattle.visit.specs.declared.Visited.{Visited}
-use Rattle.visit.specs.declared.Visited.TheVariants.{Fine, Cycle, Over}
+use Rattle.std.specs.Prelude.{◌≡◌, refl, List, [], ◌∷◌, set, replicate, Ok, Err}
+use Rattle.visit.specs.declared.Overrun.TheVariants.{Cycle, Over}
 use Rattle.visit.specs.Graph.{Graph}
-use Rattle.visit.specs.Visit.{onward, if_open, if_known, largest_of, closes, total_by, total_of, visit_of}
+use Rattle.visit.specs.Visit.{Visited, onward, if_open, if_known, largest_of, closes, total_by, total_of, visit_of}
 use Rattle.visit.specs.Cells.{at_cell, callees_from, callees_in, graph_in}
 
 -- the first function calls the second, each weighs 1
@@ -30,6 +29,6 @@ answers =
     ∷ visit_of fork 4 (2 ∷ 0 ∷ [])
     ∷ []
 
-computed : answers ≡ Fine 2 ∷ Over 0 2 ∷ Cycle 0 ∷ Cycle 1 ∷ Fine 0 ∷ Fine 0 ∷ Fine 6 ∷ Over 1 5 ∷ []
+computed : answers ≡ Ok 2 ∷ Err (Over 0 2) ∷ Err (Cycle 0) ∷ Err (Cycle 1) ∷ Ok 0 ∷ Ok 0 ∷ Ok 6 ∷ Err (Over 1 5) ∷ []
 unfolding answers pair ring fork onward if_open if_known largest_of closes total_by total_of visit_of at_cell callees_from callees_in
 computed = refl

@@ -17,9 +17,8 @@ use Rattle.std.proofs.Math.Path.{refl, ap, fun_ext}
 use Rattle.std.proofs.Common.{ap₂, ◌∙◌, inl, inr, ⊎_elim, arith}
 use Prim.Native.Nat.{ℕ, zero, suc, ◌+◌, ◌-◌, ◌*◌, ◌≤◌, ◌<◌}
 use Rattle.program.specs.Seat.{seat_of}
-use Rattle.visit.specs.declared.Visited.{Visited}
 use Rattle.visit.specs.Graph.{Graph, Among, Calls, last, call, weigh, Reaches, same, more, Tame}
-use Rattle.visit.specs.Visit.{onward, largest_of, closes, opening, total_by, total_of, none, visit_of}
+use Rattle.visit.specs.Visit.{Visited, onward, largest_of, closes, opening, total_by, total_of, none, visit_of}
 use Rattle.visit.specs.Cells.{at_cell, callees_from, callees_in, row_at, entry_rows}
 use Rattle.visit.specs.Fuel.{callee_same}
 use Rattle.visit.proofs.Chains.{longer}

@@ -2,6 +2,7 @@
 use Rattle.codes.specs.First.{Place}
 use Rattle.std.specs.Prelude.{ℕ, zero, suc, ◌*◌, List, [], ◌∷◌, get_or, Some, None}
 use Rattle.program.specs.Seat.{seat_of}
+use Rattle.visit.specs.declared.CallGraph.{CallGraph}
 use Rattle.visit.specs.Graph.{Graph}
 
 -- a cell is 0 at the end of its row, else a callee's row and 1
@@ -20,6 +21,10 @@ callees_in cells f = callees_from cells 128 (f * 128)
 
 abbrev pub graph_in : List ℕ → List ℕ → Graph
 graph_in cells weights = record { calls = callees_in cells; weight = λ f. get_or weights f 0 }
+
+-- the same, of what a visit reads
+abbrev pub graph_of : CallGraph → Graph
+graph_of graph = graph_in graph.cells.now graph.weights.now
 
 -- an entry that is not in the directory has no row, as 128 has no function
 unfoldable pub row_at : Place → ℕ

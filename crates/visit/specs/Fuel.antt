@@ -9,9 +9,8 @@ use Rattle.std.proofs.Common.{sym, ◌∙◌, subst, zero-add, suc-add, arith, l
 use Rattle.std.proofs.Math.Bool.{false}
 use Prim.Native.Nat.{ℕ, zero, suc, ◌+◌, ◌≤◌, ◌<◌}
 use Rattle.std.proofs.Math.Decide.{ℕ_discrete}
-use Rattle.visit.specs.declared.Visited.{Visited}
 use Rattle.visit.specs.Graph.{Graph, Calls}
-use Rattle.visit.specs.Visit.{onward, if_open, if_known, callee_of, largest_of, closes, opening, total_by, total_of, met_of}
+use Rattle.visit.specs.Visit.{Visited, onward, if_open, if_known, callee_of, largest_of, closes, opening, total_by, total_of, met_of}
 
 -- how many of the first n functions are not open
 unfoldable pub left : ℕ → (ℕ → Bool) → ℕ

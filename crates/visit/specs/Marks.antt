@@ -2,13 +2,11 @@
 --     Kept         a closed function's total is the one it has as an entry, and its callees are closed
 --     After        what a visit leaves: the same functions are open, and no closed one is lost
 --     Visits       what `total` does, Walks what `largest` does, and Meets what an entry does
-use Rattle.std.specs.Prelude.{◌≡◌, Bool, List, [], ◌∷◌, ℕ, zero, suc, ◌≤◌, eqb, length, get_or, set, replicate}
-use Rattle.visit.specs.declared.Visited.{Visited}
-use Rattle.visit.specs.declared.Visited.TheVariants.{Fine}
+use Rattle.std.specs.Prelude.{◌≡◌, Bool, List, [], ◌∷◌, ℕ, zero, suc, ◌≤◌, eqb, length, get_or, set, replicate, Result, Ok, Err}
+use Rattle.visit.specs.declared.Overrun.{Overrun}
 use Rattle.visit.specs.declared.State.{State}
-use Rattle.visit.specs.declared.Visit.{Visit}
 use Rattle.visit.specs.Graph.{Graph, Calls}
-use Rattle.visit.specs.Visit.{callee_of, total_of, met_of, none}
+use Rattle.visit.specs.Visit.{Visited, callee_of, total_of, met_of, none}
 
 abbrev pub open_in : List ℕ → ℕ → Bool
 open_in colours g = eqb (get_or colours g 0) 1
@@ -28,8 +26,10 @@ opened f s = record { colours = set s.colours f 1; totals = s.totals }
 abbrev pub closed : ℕ → ℕ → State → State
 closed f t s = record { colours = set s.colours f 2; totals = set s.totals f t }
 
-abbrev pub answered : Visited → State → Visit
-answered a s = record { answer = a; state = s }
+-- what a visit answers, but for the state that is handed on with a total
+abbrev pub answer_of : Result (ℕ × State) Overrun → Visited
+answer_of (Ok p) = Ok p.0
+answer_of (Err e) = Err e
 
 unfoldable pub fresh : State
 fresh = record { colours = replicate 128 0; totals = replicate 128 0 }
@@ -38,7 +38,7 @@ module _ (G : Graph) (pool : ℕ) where
   pub record Kept (s : State) : Type 0 where
     pub colours_long : length s.colours ≡ 128
     pub totals_long : length s.totals ≡ 128
-    pub total : (g : ℕ) → ClosedIn s g → total_of G pool none g ≡ Fine (get_or s.totals g 0)
+    pub total : (g : ℕ) → ClosedIn s g → total_of G pool none g ≡ Ok (get_or s.totals g 0)
     pub callees : (g h : ℕ) → ClosedIn s g → Calls G g h → ClosedIn s h
 
   pub record After (s r : State) : Type 0 where
@@ -47,19 +47,19 @@ module _ (G : Graph) (pool : ℕ) where
     pub fewer : unopened r.colours ≤ unopened s.colours
     pub still : (g : ℕ) → ClosedIn s g → ClosedIn r g
 
-  pub record Visits (f : ℕ) (s : State) (r : Visit) : Type 0 where
-    pub answers : r.answer ≡ total_of G pool (open_in s.colours) f
-    pub leaves : (t : ℕ) → r.answer ≡ Fine t → After s r.state × ClosedIn r.state f × (get_or r.state.totals f 0 ≡ t)
+  pub record Visits (f : ℕ) (s : State) (r : Result (ℕ × State) Overrun) : Type 0 where
+    pub answers : answer_of r ≡ total_of G pool (open_in s.colours) f
+    pub leaves : (t : ℕ) (left : State) → r ≡ Ok (t, left) → After s left × ClosedIn left f × (get_or left.totals f 0 ≡ t)
 
-  pub record Walks (f : ℕ) (s : State) (r : Visit) : Type 0 where
-    pub answers : r.answer ≡ met_of G pool (open_in s.colours) (G.calls f) 0
-    pub leaves : (best : ℕ) → r.answer ≡ Fine best → After s r.state × ((h : ℕ) → Calls G f h → ClosedIn r.state h)
+  pub record Walks (f : ℕ) (s : State) (r : Result (ℕ × State) Overrun) : Type 0 where
+    pub answers : answer_of r ≡ met_of G pool (open_in s.colours) (G.calls f) 0
+    pub leaves : (best : ℕ) (left : State) → r ≡ Ok (best, left) → After s left × ((h : ℕ) → Calls G f h → ClosedIn left h)
 
   -- between two entries no function is open
   pub record AtRest (s : State) : Type 0 where
     pub kept : Kept s
     pub none_open : open_in s.colours ≡ none
 
-  pub record Meets (f : ℕ) (r : Visit) : Type 0 where
-    pub answers : r.answer ≡ callee_of none (total_of G pool none) f
-    pub leaves : (t : ℕ) → r.answer ≡ Fine t → AtRest r.state
+  pub record Meets (f : ℕ) (r : Result (ℕ × State) Overrun) : Type 0 where
+    pub answers : answer_of r ≡ callee_of none (total_of G pool none) f
+    pub leaves : (t : ℕ) (left : State) → r ≡ Ok (t, left) → AtRest left

@@ -2,146 +2,102 @@
 
 #![tactic(auto)]
 
-ghost use Rattle.std.specs.Prelude.{◌≡◌, ◌+◌, ◌<◌, min, max, get_or};
+ghost use Rattle.std.specs.Prelude.{◌≡◌, ◌<◌, get_or};
 ghost use Rattle.program.specs.Seat.{seat_of};
 ghost use Rattle.visit.specs.Visit.{visit_of};
-ghost use Rattle.visit.specs.Cells.{graph_in, row_at, entry_rows};
+ghost use Rattle.visit.specs.Cells.{graph_in, graph_of, row_at, entry_rows};
 ghost use Rattle.visit.specs.Marks.{Kept, Visits, Walks, AtRest, Meets};
 
 use codes::Place;
 
-// What a visit answers: a total; 21, with the row of the callee still open; 20, with the row of the function that closed above the pool and its total.
-#[derive(Clone, Copy)]
-pub enum Visited {
-    Fine(u16),
+// Why there is no total: 21, with the row of the callee still open; 20, with the row of the function that closed above the pool and its total.
+#[derive(Clone, Copy, PartialEq, Eq, Debug)]
+pub enum Overrun {
     Cycle(usize),
     Over(usize, u16),
 }
 
-// A colour and a total for each of the 128 functions: 0 not yet open, 1 open, 2 closed.
+// The colours of a function.
+const NOT_YET_OPEN: u8 = 0;
+
+const OPEN: u8 = 1;
+
+const CLOSED: u8 = 2;
+
+// A colour and a total for each of the 128 functions: 01 asks that they travel by value, into a visit and out of it.
 #[derive(Drop)]
 pub struct State {
     pub colours: [u8; 128],
     pub totals: [u16; 128],
 }
 
-#[derive(Drop)]
-pub struct Visit {
-    pub answer: Visited,
-    pub state: State,
-}
-
-// The sum, reported as at most 65,535.
-fn plus(a: u16, b: u16) -> u16
-    ensures { result ≡ min 65535 (a + b) }
-{
-    if b <= 65535 - a { a + b } else { 65535 }
-}
-
-fn larger(a: u16, b: u16) -> u16
-    ensures { result ≡ max a b }
-{
-    if a < b { b } else { a }
+// What a visit reads: the callees of each function in 128 cells of its own, its weight, and the pool.
+#[derive(Clone, Copy)]
+struct CallGraph<'a> {
+    cells: &'a [u8],
+    weights: &'a [u16],
+    pool: u16,
 }
 
 // The total of a function that is not yet open: it opens, and closes with its weight and the largest among its callees.
 #[cycle(largest_total)]
-fn total(cells: &[u8], weights: &[u16], pool: u16, f: usize, s: State) -> Visit
-    requires { (f < 128) × (get_or s.colours f 0 ≡ 0) × Kept (graph_in cells.now weights.now) pool s }
-    ensures { Visits (graph_in cells.now weights.now) pool f s result }
+fn total(graph: &CallGraph<'_>, f: usize, mut state: State) -> Result<(u16, State), Overrun>
+    requires { (f < 128) × (get_or state.colours f 0 ≡ 0) × Kept (graph_of graph.now) graph.now.pool state }
+    ensures { Visits (graph_of graph.now) graph.now.pool f state result }
 {
-    let mut open = s;
-    open.colours[f] = 1;
-    let walked = largest(cells, weights, pool, f, open);
-    let a = walked.answer;
-    let Visited::Fine(best) = a else {
-        return walked;
-    };
-    let sum = plus(cells::at(weights, f), best);
-    let mut done = walked.state;
-    if pool < sum {
-        return Visit {
-            answer: Visited::Over(f, sum),
-            state: done,
-        };
+    state.colours[f] = OPEN;
+    let (best, mut state) = largest(graph, f, state)?;
+    let sum = cells::at(graph.weights, f).saturating_add(best);
+    if graph.pool < sum {
+        return Err(Overrun::Over(f, sum));
     }
-    done.colours[f] = 2;
-    done.totals[f] = sum;
-    Visit {
-        answer: Visited::Fine(sum),
-        state: done,
-    }
+    state.colours[f] = CLOSED;
+    state.totals[f] = sum;
+    Ok((sum, state))
 }
 
 // The largest total among the callees of f, along its row.
 #[cycle(largest_total)]
-fn largest(cells: &[u8], weights: &[u16], pool: u16, f: usize, s: State) -> Visit
-    requires { (f < 128) × Kept (graph_in cells.now weights.now) pool s }
-    ensures { Walks (graph_in cells.now weights.now) pool f s result }
+fn largest(graph: &CallGraph<'_>, f: usize, mut state: State) -> Result<(u16, State), Overrun>
+    requires { (f < 128) × Kept (graph_of graph.now) graph.now.pool state }
+    ensures { Walks (graph_of graph.now) graph.now.pool f state result }
 {
     let mut best: u16 = 0;
-    let mut state = s;
-    let mut cell: usize = 0;
-    while cell < 128 {
-        let c = cells::at(cells, f * 128 + cell);
+    for &c in cells::part(graph.cells, f * 128, 128) {
         if c == 0 {
-            return Visit {
-                answer: Visited::Fine(best),
-                state,
-            };
+            break;
         }
-        cell += 1;
         let g = (c - 1) as usize;
         if 128 <= g {
             continue;
         }
-        let colour = state.colours[g];
-        if colour == 1 {
-            return Visit {
-                answer: Visited::Cycle(g),
-                state,
-            };
-        }
-        if colour == 0 {
-            let v = total(cells, weights, pool, g, state);
-            let a = v.answer;
-            let Visited::Fine(t) = a else {
-                return v;
-            };
-            let next = v.state;
-            state = next;
-            best = larger(best, t);
-            continue;
-        }
-        let t = state.totals[g];
-        best = larger(best, t);
+        let t = match state.colours[g] {
+            OPEN => return Err(Overrun::Cycle(g)),
+            NOT_YET_OPEN => {
+                let (t, next) = total(graph, g, state)?;
+                state = next;
+                t
+            }
+            _ => state.totals[g],
+        };
+        best = best.max(t);
     }
-    Visit {
-        answer: Visited::Fine(best),
-        state,
-    }
+    Ok((best, state))
 }
 
 // An entry while no function is open: a row past 128 is no function, and weighs 0.
-fn met(cells: &[u8], weights: &[u16], pool: u16, f: usize, state: State) -> Visit
-    requires { AtRest (graph_in cells.now weights.now) pool state }
-    ensures { Meets (graph_in cells.now weights.now) pool f result }
+fn met(graph: &CallGraph<'_>, f: usize, state: State) -> Result<(u16, State), Overrun>
+    requires { AtRest (graph_of graph.now) graph.now.pool state }
+    ensures { Meets (graph_of graph.now) graph.now.pool f result }
 {
     if 128 <= f {
-        return Visit {
-            answer: Visited::Fine(0),
-            state,
-        };
+        return Ok((0, state));
     }
-    let colour = state.colours[f];
-    if colour == 0 {
-        return total(cells, weights, pool, f, state);
+    if state.colours[f] == NOT_YET_OPEN {
+        return total(graph, f, state);
     }
     let t = state.totals[f];
-    Visit {
-        answer: Visited::Fine(t),
-        state,
-    }
+    Ok((t, state))
 }
 
 // The row of an entry; 128 is no function's.
@@ -163,25 +119,23 @@ pub fn visit_entries(
     pool: u16,
     ids: &[u16],
     entries: &[u16],
-) -> Visited
+) -> Result<u16, Overrun>
     ensures { result ≡ visit_of (graph_in cells.now weights.now) pool (entry_rows ids.now entries.now) }
 {
-    let colours = [0u8; 128];
-    let totals = [0u16; 128];
-    let mut state = State { colours, totals };
+    let graph = CallGraph {
+        cells,
+        weights,
+        pool,
+    };
+    let mut state = State {
+        colours: [NOT_YET_OPEN; 128],
+        totals: [0; 128],
+    };
     let mut best: u16 = 0;
-    let mut i: usize = 0;
-    while i < entries.len() {
-        let f = entry_row(ids, entries[i]);
-        let v = met(cells, weights, pool, f, state);
-        let a = v.answer;
-        let Visited::Fine(t) = a else {
-            return a;
-        };
-        let next = v.state;
+    for &entry in entries {
+        let (total, next) = met(&graph, entry_row(ids, entry), state)?;
         state = next;
-        best = larger(best, t);
-        i += 1;
+        best = best.max(total);
     }
-    Visited::Fine(best)
+    Ok(best)
 }

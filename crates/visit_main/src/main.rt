@@ -4,36 +4,20 @@
 ghost use Rattle.std.specs.Prelude.{◌<◌};
 
 use std::io;
-use visit::Visited;
+use visit::Overrun;
 
-fn line(rt: &impl Print, name: &[u8], a: Visited) -> io::Result<()> {
-    rt.write_all(name)?;
-    match a {
-        Visited::Fine(t) => {
-            rt.write_all(b": 0 ")?;
-            rt.print(t as u64)?;
-        }
-        Visited::Cycle(f) => {
-            rt.write_all(b": 21 ")?;
-            rt.print(f as u64)?;
-        }
-        Visited::Over(f, t) => {
-            rt.write_all(b": 20 ")?;
-            rt.print(f as u64)?;
-            rt.write_all(b" ")?;
-            rt.print(t as u64)?;
-        }
+fn line(rt: &impl Print, name: &str, answer: Result<u16, Overrun>) -> io::Result<()> {
+    match answer {
+        Ok(total) => println!(rt; "{name}: 0 {total}"),
+        Err(Overrun::Cycle(row)) => println!(rt; "{name}: 21 {row}"),
+        Err(Overrun::Over(row, total)) => println!(rt; "{name}: 20 {row} {total}"),
     }
-    rt.write_all(b"\n")
 }
 
 // Each function calls the next one, the last none.
 fn chain(cells: &mut [u8]) {
-    let mut f: usize = 0;
-    while f < 127 {
-        let next = (f + 2) as u8;
-        cells::put(cells, f * 128, next);
-        f += 1;
+    for f in 0..127 {
+        cells::put(cells, f * 128, (f + 2) as u8);
     }
 }
 
@@ -50,44 +34,37 @@ fn full_row(cells: &mut [u8], f: usize)
     requires { f < 127 }
 {
     let mut callee = f;
-    let mut cell: usize = 0;
-    while cell < 128 {
+    for cell in 0..128 {
         callee = later(f, callee);
-        let c = (callee + 1) as u8;
-        cells::put(cells, f * 128 + cell, c);
-        cell += 1;
+        cells::put(cells, f * 128 + cell, (callee + 1) as u8);
     }
 }
 
 // Each function but the last has a full row.
 fn wide(cells: &mut [u8]) {
-    let mut f: usize = 0;
-    while f < 127 {
+    for f in 0..127 {
         full_row(cells, f);
-        f += 1;
     }
 }
 
 // Function k has id 200 - k.
-fn falling(ids: &mut [u16]) {
-    let mut f: usize = 0;
-    while f < 128 {
-        let id = (200 - f) as u16;
-        cells::put(ids, f, id);
-        f += 1;
+fn falling() -> [u16; 128] {
+    let mut ids = [0u16; 128];
+    for (f, id) in ids.iter_mut().enumerate() {
+        *id = (200 - f) as u16;
     }
+    ids
 }
 
 fn ask(
     rt: &impl Print,
-    name: &[u8],
+    name: &str,
     cells: &[u8],
     weights: &[u16],
     pool: u16,
     entries: &[u16],
 ) -> io::Result<()> {
-    let mut ids = [0u16; 128];
-    falling(&mut ids);
+    let ids = falling();
     line(
         rt,
         name,
@@ -103,11 +80,11 @@ fn chains(
     again: &[u16],
 ) -> io::Result<()> {
     chain(cells);
-    ask(rt, b"chain", cells, weights, 128, first)?;
-    ask(rt, b"chain, pool short by one", cells, weights, 127, first)?;
+    ask(rt, "chain", cells, weights, 128, first)?;
+    ask(rt, "chain, pool short by one", cells, weights, 127, first)?;
     ask(
         rt,
-        b"chain, 32 times the same entry",
+        "chain, 32 times the same entry",
         cells,
         weights,
         128,
@@ -119,7 +96,7 @@ fn rings(rt: &impl Print, cells: &mut [u8], weights: &[u16], first: &[u16]) -> i
     cells::put(cells, 16256, 1);
     ask(
         rt,
-        b"chain, the last calls the first",
+        "chain, the last calls the first",
         cells,
         weights,
         128,
@@ -128,7 +105,7 @@ fn rings(rt: &impl Print, cells: &mut [u8], weights: &[u16], first: &[u16]) -> i
     cells::put(cells, 16256, 128);
     ask(
         rt,
-        b"chain, the last calls itself",
+        "chain, the last calls itself",
         cells,
         weights,
         128,
@@ -141,7 +118,7 @@ fn entries_of_a_chain(rt: &impl Print, cells: &mut [u8], weights: &[u16]) -> io:
     let from_its_end = [73u16, 200u16, 73u16, 9u16, 137u16];
     ask(
         rt,
-        b"chain, entries from its end on, one unknown",
+        "chain, entries from its end on, one unknown",
         cells,
         weights,
         128,
@@ -150,7 +127,7 @@ fn entries_of_a_chain(rt: &impl Print, cells: &mut [u8], weights: &[u16]) -> io:
     let unknown = [9u16; 1];
     ask(
         rt,
-        b"chain, unknown entry, pool 0",
+        "chain, unknown entry, pool 0",
         cells,
         weights,
         0,
@@ -158,7 +135,7 @@ fn entries_of_a_chain(rt: &impl Print, cells: &mut [u8], weights: &[u16]) -> io:
     )?;
     ask(
         rt,
-        b"chain, no entry, pool 0",
+        "chain, no entry, pool 0",
         cells,
         weights,
         0,
@@ -174,11 +151,11 @@ fn widest(
     again: &[u16],
 ) -> io::Result<()> {
     wide(cells);
-    ask(rt, b"widest", cells, weights, 128, first)?;
-    ask(rt, b"widest, pool short by one", cells, weights, 127, first)?;
+    ask(rt, "widest", cells, weights, 128, first)?;
+    ask(rt, "widest, pool short by one", cells, weights, 127, first)?;
     ask(
         rt,
-        b"widest, pool short by two, 32 times the same entry",
+        "widest, pool short by two, 32 times the same entry",
         cells,
         weights,
         126,
@@ -190,7 +167,7 @@ fn heavy(rt: &impl Print, cells: &[u8], weights: &mut [u16], first: &[u16]) -> i
     cells::put(weights, 64, 65535);
     ask(
         rt,
-        b"widest, one of 65535, pool 65535",
+        "widest, one of 65535, pool 65535",
         cells,
         weights,
         65535,
@@ -198,7 +175,7 @@ fn heavy(rt: &impl Print, cells: &[u8], weights: &mut [u16], first: &[u16]) -> i
     )?;
     ask(
         rt,
-        b"widest, one of 65535, pool 65534",
+        "widest, one of 65535, pool 65534",
         cells,
         weights,
         65534,

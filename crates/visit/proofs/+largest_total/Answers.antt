@@ -1,105 +1,105 @@
 -- The cycle of calls of `visit::total` and `visit::largest`: each turn and return is a law of `Steps`. Assumes nothing.
-use Rattle.std.proofs.Common.{refl, ◌-◌, set, arith}
-use Rattle.visit.specs.Cells.{graph_in}
+use Rattle.std.proofs.Common.{◌≡◌, ℕ, ap, ◌∙◌, set, max, arith}
+use Rattle.visit.specs.Cells.{graph_of}
 use Rattle.visit.specs.Marks.{unopened}
 use Rattle.visit.proofs.Colours.{unopened_open, into, opened_kept}
-use Rattle.visit.proofs.Steps.{failed, row_begins, row_ends, row_zero, row_unknown, row_open, row_closed, row_failed, row_fine, closes_failed, closes_above, closes_below}
+use Rattle.visit.proofs.Steps.{row_begins, row_ends, row_unknown, row_open, row_closed, row_failed, row_fine, closes_failed, closes_above, closes_below}
 use Rattle.visit.proofs.+largest_total.Goals as goal
+use Rattle.visit.proofs.+largest_total.Goals.{largest-in-0+in_ok-t-in-0, largest-in_default}
+use Rattle.std.proofs.lemmas.Result.{err_from_is_err_and}
+use Rattle.std.proofs.lemmas.List.{get_or_past}
 
-pub largest-loop-cell-init : goal.largest-loop-cell-init
-largest-loop-cell-init t c =
+pub largest-loop-c-init : goal.largest-loop-c-init
+largest-loop-c-init t c =
     let a = c.args in
-    row_begins a.cells.now a.weights.now a.pool a.f a.s c.requires.1
+    row_begins a.graph.now a.f a.state c.requires.1
+
+pub largest-loop-c-preserved-then-g-ge128 : goal.largest-loop-c-preserved-then-g-ge128
+largest-loop-c-preserved-then-g-ge128 t c =
+    let a = c.args in
+    let l = c.loop-c in
+    let part = c.part-c-items in
+    row_unknown a.graph.now a.f a.state part.result.now part.ensures l.best l.state l.c-index l.invariant
+    c.loop-c-test.true c.if-c-eq0.false c.if-g-ge128.true
+
+pub largest-returns-in-1 : goal.largest-returns-in-1
+largest-returns-in-1 t c =
+    let a = c.args in
+    let l = c.loop-c in
+    let part = c.part-c-items in
+    row_open a.graph.now a.f a.state part.result.now part.ensures l.best l.state l.c-index l.invariant
+    c.loop-c-test.true c.if-c-eq0.false c.if-g-ge128.false c.in-1.is
+
+pub largest-returns-in_err-t-in-0 : goal.largest-returns-in_err-t-in-0
+largest-returns-in_err-t-in-0 t c =
+    let a = c.args in
+    let l = c.loop-c in
+    let part = c.part-c-items in
+    let p = err_from_is_err_and c.from_residual.result c.from_residual.ensures.1 in
+    rw (p.1, p.2)
+    (row_failed a.graph.now a.f a.state part.result.now part.ensures l.best l.state l.c-index l.invariant
+    c.loop-c-test.true c.if-c-eq0.false c.if-g-ge128.false c.in-0.is c.total.result c.total.ensures _ c.in_err-t-in-0.was)
+
+pub largest-loop-c-preserved : goal.largest-loop-c-preserved
+largest-loop-c-preserved t c =
+    let a = c.args in
+    let l = c.loop-c in
+    let part = c.part-c-items in
+    let most : (t : ℕ) → c.match-state-g.t ≡ t → c.max-best.result ≡ max l.best t = λ t e. c.max-best.ensures ∙ ap (max l.best) e in
+    elim c.match-state-g.branch [
+      | largest-in-0+in_ok-t-in-0 w ↦
+          rw w.state-is
+          (row_fine a.graph.now a.f a.state part.result.now part.ensures l.best l.state l.c-index l.invariant
+          c.loop-c-test.true c.if-c-eq0.false c.if-g-ge128.false w.in-0.is w.total.result w.total.ensures _ _ w.in_ok-t-in-0.was _ (most _ w.t-is))
+      | largest-in_default w ↦
+          rw w.state-is
+          (row_closed a.graph.now a.f a.state part.result.now part.ensures l.best l.state l.c-index l.invariant
+          c.loop-c-test.true c.if-c-eq0.false c.if-g-ge128.false (λ e. absurd (omega arith)) (λ e. absurd (omega arith)) _ (most _ w.t-is))
+    ]
+
+pub largest-returns-after-loop-c : goal.largest-returns-after-loop-c
+largest-returns-after-loop-c t c =
+    let a = c.args in
+    let l = c.loop-c in
+    let part = c.part-c-items in
+    row_ends a.graph.now a.f a.state part.result.now part.ensures l.best l.state l.c-index l.invariant
+    (λ _. get_or_past part.result.now l.c-index 0 c.loop-c-test.false)
 
 pub largest-returns-then-c-eq0 : goal.largest-returns-then-c-eq0
 largest-returns-then-c-eq0 t c =
     let a = c.args in
-    let l = c.loop-cell in
-    row_zero a.cells.now a.weights.now a.pool a.f a.s l.best l.state l.cell l.invariant
-    c.loop-cell-test.true c.at-c.result c.at-c.ensures c.if-c-eq0.true
+    let l = c.loop-c in
+    let part = c.part-c-items in
+    row_ends a.graph.now a.f a.state part.result.now part.ensures l.best l.state l.c-index l.invariant
+    (λ _. c.if-c-eq0.true)
 
-pub largest-loop-cell-preserved-then-g-ge128 : goal.largest-loop-cell-preserved-then-g-ge128
-largest-loop-cell-preserved-then-g-ge128 t c =
-    let a = c.args in
-    let l = c.loop-cell in
-    let read = c.at-c in
-    row_unknown a.cells.now a.weights.now a.pool a.f a.s l.best l.state l.cell l.invariant
-    c.loop-cell-test.true read.result read.ensures c.if-c-eq0.false (read.result - 1) refl c.if-g-ge128.true
-
-pub largest-returns-then-colour-eq1 : goal.largest-returns-then-colour-eq1
-largest-returns-then-colour-eq1 t c =
-    let a = c.args in
-    let l = c.loop-cell in
-    let read = c.at-c in
-    row_open a.cells.now a.weights.now a.pool a.f a.s l.best l.state l.cell l.invariant
-    c.loop-cell-test.true read.result read.ensures c.if-c-eq0.false (read.result - 1) refl c.if-g-ge128.false c.if-colour-eq1.true
-
-pub largest-returns-in_default : goal.largest-returns-in_default
-largest-returns-in_default t c =
-    let a = c.args in
-    let l = c.loop-cell in
-    let read = c.at-c in
-    let visited = c.total-v in
-    row_failed a.cells.now a.weights.now a.pool a.f a.s l.best l.state l.cell l.invariant
-    c.loop-cell-test.true read.result read.ensures c.if-c-eq0.false (read.result - 1) refl c.if-g-ge128.false
-    c.if-colour-eq0.true visited.result visited.ensures (failed visited.result.answer c.in_default.not-Fine)
-
-pub largest-loop-cell-preserved-then-colour-eq0 : goal.largest-loop-cell-preserved-then-colour-eq0
-largest-loop-cell-preserved-then-colour-eq0 t c =
-    let a = c.args in
-    let l = c.loop-cell in
-    let read = c.at-c in
-    let visited = c.total-v in
-    let most = c.larger-best in
-    row_fine a.cells.now a.weights.now a.pool a.f a.s l.best l.state l.cell l.invariant
-    c.loop-cell-test.true read.result read.ensures c.if-c-eq0.false (read.result - 1) refl c.if-g-ge128.false
-    c.if-colour-eq0.true visited.result visited.ensures _ c.in-Fine.is most.result most.ensures
-
-pub largest-loop-cell-preserved : goal.largest-loop-cell-preserved
-largest-loop-cell-preserved t c =
-    let a = c.args in
-    let l = c.loop-cell in
-    let read = c.at-c in
-    let most = c.larger-best-in-loop-cell in
-    row_closed a.cells.now a.weights.now a.pool a.f a.s l.best l.state l.cell l.invariant
-    c.loop-cell-test.true read.result read.ensures c.if-c-eq0.false (read.result - 1) refl c.if-g-ge128.false
-    c.if-colour-eq1.false c.if-colour-eq0.false most.result most.ensures
-
-pub largest-returns : goal.largest-returns
-largest-returns t c =
-    let a = c.args in
-    let l = c.loop-cell in
-    row_ends a.cells.now a.weights.now a.pool a.f a.s l.best l.state l.cell l.invariant c.loop-cell-test.false
-
-pub total-largest-walked-requires : goal.total-largest-walked-requires
-total-largest-walked-requires t c =
+pub total-largest-requires : goal.total-largest-requires
+total-largest-requires t c =
     let a = c.args in
     let p = c.requires in (
-      into t (unopened a.s.colours) (unopened (set a.s.colours a.f 1)) c.decreases
-          (unopened_open a.s.colours a.f 0 (omega (arith, p.2.colours_long)) p.1),
-      (p.0, opened_kept (graph_in a.cells.now a.weights.now) a.pool a.f a.s p.0 p.1 p.2),
+      into t (unopened a.state.colours) (unopened (set a.state.colours a.f 1)) c.decreases
+          (unopened_open a.state.colours a.f 0 (omega (arith, p.2.colours_long)) p.1),
+      (p.0, opened_kept (graph_of a.graph.now) a.graph.now.pool a.f a.state p.0 p.1 p.2),
     )
 
-pub total-returns-in_default : goal.total-returns-in_default
-total-returns-in_default t c =
+pub total-returns-in_err-best : goal.total-returns-in_err-best
+total-returns-in_err-best t c =
     let a = c.args in
     let p = c.requires in
-    let walked = c.largest-walked in
-    closes_failed (graph_in a.cells.now a.weights.now) a.pool a.f a.s p.0 p.1 p.2 walked.result walked.ensures
-    (failed walked.result.answer c.in_default.not-Fine)
+    let r = err_from_is_err_and c.from_residual.result c.from_residual.ensures.1 in
+    rw (r.1, r.2)
+    (closes_failed (graph_of a.graph.now) a.graph.now.pool a.f a.state p.0 p.1 p.2 c.largest.result c.largest.ensures _ c.in_err-best.was)
 
-pub total-returns-then-pool-sum : goal.total-returns-then-pool-sum
-total-returns-then-pool-sum t c =
+pub total-returns-then-graph-sum : goal.total-returns-then-graph-sum
+total-returns-then-graph-sum t c =
     let a = c.args in
     let p = c.requires in
-    let walked = c.largest-walked in
-    closes_above (graph_in a.cells.now a.weights.now) a.pool a.f a.s p.0 p.1 p.2 walked.result walked.ensures _
-    c.at.result c.plus-sum.result c.in-Fine.is c.at.ensures c.plus-sum.ensures c.if-pool-sum.true
+    closes_above (graph_of a.graph.now) a.graph.now.pool a.f a.state p.0 p.1 p.2 c.largest.result c.largest.ensures
+    _ _ c.in_ok-best.was c.at.result c.saturating_add-sum.result c.at.ensures c.saturating_add-sum.ensures c.if-graph-sum.true
 
 pub total-returns : goal.total-returns
 total-returns t c =
     let a = c.args in
     let p = c.requires in
-    let walked = c.largest-walked in
-    closes_below (graph_in a.cells.now a.weights.now) a.pool a.f a.s p.0 p.1 p.2 walked.result walked.ensures _
-    c.at.result c.plus-sum.result c.in-Fine.is c.at.ensures c.plus-sum.ensures c.if-pool-sum.false
+    closes_below (graph_of a.graph.now) a.graph.now.pool a.f a.state p.0 p.1 p.2 c.largest.result c.largest.ensures
+    _ _ c.in_ok-best.was c.at.result c.saturating_add-sum.result c.at.ensures c.saturating_add-sum.ensures c.if-graph-sum.false

@@ -3,44 +3,40 @@
 use Rattle.visit.specs.Cells.{graph_in}
 use Rattle.visit.specs.Marks.{fresh}
 use Rattle.visit.proofs.Colours.{fresh_rest}
-use Rattle.visit.proofs.Steps.{failed}
 use Rattle.visit.proofs.Entries.{entries_begin, entries_end, entry_failed, entry_fine}
 use Rattle.visit.proofs.visit_entries.Goals as goal
+use Rattle.std.proofs.lemmas.Result.{err_from_is_err_and}
 
-pub loop-i-init : goal.loop-i-init
+pub loop-entry-init : goal.loop-entry-init
 unfolding fresh
-loop-i-init c =
+loop-entry-init c =
     let a = c.args in
     entries_begin (graph_in a.cells.now a.weights.now) a.pool a.ids.now a.entries.now fresh
     (fresh_rest (graph_in a.cells.now a.weights.now) a.pool)
 
-pub met-v-requires : goal.met-v-requires
-met-v-requires c = c.loop-i.invariant.rest
-
-pub returns-in_default : goal.returns-in_default
-returns-in_default c =
+pub returns-in_err-total : goal.returns-in_err-total
+returns-in_err-total c =
     let a = c.args in
-    let l = c.loop-i in
-    let met = c.met-v in
-    let row = c.entry_row-f in
-    entry_failed (graph_in a.cells.now a.weights.now) a.pool a.ids.now a.entries.now l.best l.state l.i l.invariant
-    c.loop-i-test.true row.result row.ensures met.result met.ensures
-    (failed met.result.answer c.in_default.not-Fine)
+    let l = c.loop-entry in
+    let met = c.met in
+    let row = c.entry_row in
+    let p = err_from_is_err_and c.from_residual.result c.from_residual.ensures.1 in
+    rw (p.1, p.2)
+    (entry_failed (graph_in a.cells.now a.weights.now) a.pool a.ids.now a.entries.now l.best l.state l.entry-index l.invariant
+    c.loop-entry-test.true row.result row.ensures met.result met.ensures _ c.in_err-total.was)
 
-pub loop-i-preserved : goal.loop-i-preserved
-loop-i-preserved c =
+pub loop-entry-preserved : goal.loop-entry-preserved
+loop-entry-preserved c =
     let a = c.args in
-    let l = c.loop-i in
-    let most = c.larger-best in
-    let met = c.met-v in
-    let row = c.entry_row-f in
-    entry_fine (graph_in a.cells.now a.weights.now) a.pool a.ids.now a.entries.now l.best l.state l.i l.invariant
-    c.loop-i-test.true row.result row.ensures met.result
-    met.ensures _ c.in-Fine.is most.result most.ensures
+    let l = c.loop-entry in
+    let met = c.met in
+    let row = c.entry_row in
+    entry_fine (graph_in a.cells.now a.weights.now) a.pool a.ids.now a.entries.now l.best l.state l.entry-index l.invariant
+    c.loop-entry-test.true row.result row.ensures met.result met.ensures _ _ c.in_ok-total.was c.max-best.result c.max-best.ensures
 
 pub returns : goal.returns
 returns c =
     let a = c.args in
-    let l = c.loop-i in
-    entries_end (graph_in a.cells.now a.weights.now) a.pool a.ids.now a.entries.now l.best l.state l.i l.invariant
-    c.loop-i-test.false
+    let l = c.loop-entry in
+    entries_end (graph_in a.cells.now a.weights.now) a.pool a.ids.now a.entries.now l.best l.state l.entry-index l.invariant
+    c.loop-entry-test.false
