@@ -101,6 +101,7 @@ fn met(graph: &CallGraph<'_>, f: usize, state: State) -> Result<(u16, State), Ov
 }
 
 // The row of an entry; 128 is no function's.
+#[tactic(auto, unfolding(crate::specs::Cells::row_at))]
 fn entry_row(ids: &[u16], id: u16) -> usize
     ensures { result ≡ row_at (seat_of ids.now id) }
 {
