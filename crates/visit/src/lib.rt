@@ -97,8 +97,7 @@ fn met(graph: &CallGraph<'_>, f: usize, state: State) -> Result<(u16, State), Ov
     if state.colours[f] == NOT_YET_OPEN {
         return total(graph, f, state);
     }
-    let t = state.totals[f];
-    Ok((t, state))
+    Ok((state.totals[f], state))
 }
 
 // The row of an entry; 128 is no function's.

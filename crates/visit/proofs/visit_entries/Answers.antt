@@ -1,5 +1,5 @@
--- `visit::visit_entries` keeps its promise. The invariant: no function is open, and the entries from i on, from the largest total so far, have the answer of
--- all. Each turn and return is a law of `Entries`. Assumes nothing.
+-- `visit::visit_entries` keeps its promise: its loop begins with no function open, and a failure is an entry's. Its turns and its end are laws of `Entries`
+-- that the source names. Assumes nothing.
 use Rattle.visit.specs.Cells.{graph_in}
 use Rattle.visit.specs.Marks.{fresh}
 use Rattle.visit.proofs.Colours.{fresh_rest}
