@@ -8,8 +8,6 @@ ghost use Rattle.visit.specs.Visit.{visit_of};
 ghost use Rattle.visit.specs.Cells.{graph_in, graph_of, row_at, entry_rows};
 ghost use Rattle.visit.specs.Marks.{Kept, Visits, Walks, AtRest, Meets};
 
-use codes::Place;
-
 // Why there is no total: 21, with the row of the callee still open; 20, with the row of the function that closed above the pool and its total.
 #[derive(Clone, Copy, PartialEq, Eq, Debug)]
 pub enum Overrun {
@@ -86,6 +84,7 @@ fn largest(graph: &CallGraph<'_>, f: usize, mut state: State) -> Result<(u16, St
 }
 
 // An entry while no function is open: a row past 128 is no function, and weighs 0.
+#[tactic(auto, using(crate::proofs::Entries::met_unknown, crate::proofs::Entries::met_new, crate::proofs::Entries::met_again))]
 fn met(graph: &CallGraph<'_>, f: usize, state: State) -> Result<(u16, State), Overrun>
     requires { AtRest (graph_of graph.now) graph.now.pool state }
     ensures { Meets (graph_of graph.now) graph.now.pool f result }
@@ -96,23 +95,20 @@ fn met(graph: &CallGraph<'_>, f: usize, state: State) -> Result<(u16, State), Ov
     if state.colours[f] == NOT_YET_OPEN {
         return total(graph, f, state);
     }
-    let t = state.totals[f];
-    Ok((t, state))
+    Ok((state.totals[f], state))
 }
 
 // The row of an entry; 128 is no function's.
+#[tactic(auto, unfolding(crate::specs::Cells::row_at))]
 fn entry_row(ids: &[u16], id: u16) -> usize
     ensures { result ≡ row_at (seat_of ids.now id) }
 {
-    let place = program::function_row(ids, id);
-    match place {
-        Place::Row(f) => f,
-        Place::Nowhere => 128,
-    }
+    program::function_row(ids, id).unwrap_or(128)
 }
 
 // For each entry: the first 20 or 21, else the largest total. A closed function's total does not depend on the entry that it was reached from, so
 // colours and totals are kept over the entries.
+#[tactic(auto, using(crate::proofs::Entries::entries_end, crate::proofs::Entries::entry_fine))]
 pub fn visit_entries(
     cells: &[u8],
     weights: &[u16],
