@@ -7,6 +7,7 @@ ghost use Rattle.answers.specs.Fields.{word, signed_word, fields_by, violation_f
 use flow::Spot;
 use program::Refusal;
 use rules::Violation;
+use std::fmt;
 
 // Number, function, offset, a, b, c; unused fields are 0. A refusal has its place in the offset's field.
 #[derive(Clone, Copy, PartialEq, Eq, Debug)]
@@ -19,6 +20,18 @@ pub struct Fields {
     pub c: u32,
 }
 
+// As `bench` prints them: each as a signed number.
+impl fmt::Display for Fields {
+    fn fmt<W: fmt::Write>(&self, f: &mut fmt::Formatter<W>) -> fmt::Result {
+        write!(f, "{} ", self.number.cast_signed())?;
+        write!(f, "{} ", self.function.cast_signed())?;
+        write!(f, "{} ", self.offset.cast_signed())?;
+        write!(f, "{} ", self.a.cast_signed())?;
+        write!(f, "{} ", self.b.cast_signed())?;
+        write!(f, "{}", self.c.cast_signed())
+    }
+}
+
 // The low 32 bits.
 fn word(n: u64) -> u32
     ensures { result ≡ word n }
@@ -27,7 +40,7 @@ fn word(n: u64) -> u32
 }
 
 // A place as a signed number of 32 bits, in two's complement.
-fn signed_word(spot: Spot) -> u64
+pub fn signed_word(spot: Spot) -> u64
     ensures { result ≡ signed_word spot }
 {
     match spot {

@@ -43,7 +43,7 @@ pub fn replay(data: &[u8]) -> Tally {
 fn same_target(target: Result<usize, Spot>, legal: u8, recorded: u32) -> bool {
     match target {
         Ok(to) => legal == 1 && to == recorded as usize,
-        Err(spot) => legal == 0 && answers::signed_word(spot) == recorded,
+        Err(spot) => legal == 0 && answers::signed_word(spot) == u64::from(recorded),
     }
 }
 
