@@ -2,59 +2,20 @@
 // (01, "Bench file, program and C entry"). More than 65,537 bytes are never read: that many are already too many.
 #![tactic(auto)]
 
-ghost use Rattle.std.specs.Prelude.{◌≡◌, ◌<◌, ◌≤◌, length};
+ghost use Rattle.std.specs.Prelude.{◌≤◌, length};
 
-use answers::Fields;
-use desk::Answer;
+use desk::Checked;
+use file::Refused;
 use std::io;
 use std::io::Read;
 
-fn wide(word: u32) -> u64
-    ensures { (result ≡ word) × (result < 4294967296) }
-{
-    word as u64
-}
-
-// A 32-bit word in two's complement, as a number with its sign.
-fn print_word(rt: &impl Print, word: u32) -> io::Result<()> {
-    if word < 2147483648 {
-        rt.print(wide(word))
-    } else {
-        rt.write_all(b"-")?;
-        rt.print(4294967296 - wide(word))
-    }
-}
-
-fn print_field(rt: &impl Print, word: u32) -> io::Result<()> {
-    rt.write_all(b" ")?;
-    print_word(rt, word)
-}
-
-fn print_fields(rt: &impl Print, fields: Fields) -> io::Result<()> {
-    print_field(rt, fields.number)?;
-    print_field(rt, fields.function)?;
-    print_field(rt, fields.offset)?;
-    print_field(rt, fields.a)?;
-    print_field(rt, fields.b)?;
-    print_field(rt, fields.c)?;
-    rt.write_all(b"\n")
-}
-
-fn print_answer(rt: &impl Print, answer: Answer) -> io::Result<()> {
+fn print_answer(rt: &impl Print, answer: Result<Checked, Refused>) -> io::Result<()> {
     match answer {
-        Answer::Refused { number, place } => {
-            rt.write_all(b"INPUT ")?;
-            rt.print(wide(number))?;
-            rt.write_all(b" ")?;
-            rt.print(place as u64)?;
-            rt.write_all(b"\n")
+        Ok(Checked { stack, pool }) => {
+            println!(rt; "STACK {stack}")?;
+            println!(rt; "POOL {pool}")
         }
-        Answer::Checked { stack, pool } => {
-            rt.write_all(b"STACK")?;
-            print_fields(rt, stack)?;
-            rt.write_all(b"POOL")?;
-            print_fields(rt, pool)
-        }
+        Err(Refused { number, place }) => println!(rt; "INPUT {number} {place}"),
     }
 }
 

@@ -3,21 +3,14 @@
 #![tactic(auto)]
 
 use answers::Fields;
-use codes::Entry;
-use flow::starts::Decoded;
-use flow::{Flow, Spot, Target};
+use codes::CodeList;
+use flow::Flow;
+use flow::starts::Stop;
+use program::{Descriptors, Functions, PoolProgram, Program, Scratch};
 
 // An offset, shifted by two bits to make room for a kind. No body is as long as 2 to the power of 30.
 fn packed(kind: u32, offset: usize) -> u32 {
     (offset % 0x4000_0000) as u32 * 4 + kind % 4
-}
-
-// A place as 32 bits in two's complement.
-fn two_complement(spot: Spot) -> u64 {
-    match spot {
-        Spot::At(n) => (n % 0x1_0000_0000) as u64,
-        Spot::Before(n) => (0x1_0000_0000 - (n % 0x1_0000_0000) as u64) % 0x1_0000_0000,
-    }
 }
 
 #[unsafe(no_mangle)]
@@ -30,20 +23,16 @@ pub extern "C" fn probe_size(op: u8) -> u32 {
 pub extern "C" fn probe_starts(body: &[u8], marks: &mut [u8]) -> u32 {
     let sizes = tables::sizes();
     match flow::starts::mark_starts(marks, &sizes, body) {
-        Decoded::Whole => 0,
-        Decoded::Unknown(offset, _) => packed(1, offset),
-        Decoded::Truncated(offset, _) => packed(2, offset),
+        Ok(()) => 0,
+        Err(Stop::Unknown { offset, byte: _ }) => packed(1, offset),
+        Err(Stop::Truncated { offset, opcode: _ }) => packed(2, offset),
     }
 }
 
 #[unsafe(no_mangle)]
 pub extern "C" fn probe_has_ret(body: &[u8]) -> u32 {
     let sizes = tables::sizes();
-    if flow::starts::has_ret(&sizes, body) {
-        1
-    } else {
-        0
-    }
+    u32::from(flow::starts::has_ret(&sizes, body))
 }
 
 #[unsafe(no_mangle)]
@@ -59,16 +48,16 @@ pub extern "C" fn probe_flow(op: u8, operands: &[u8]) -> u32 {
 #[unsafe(no_mangle)]
 pub extern "C" fn probe_target(next: usize, word: u16, marks: &[u8], len: usize) -> u64 {
     match flow::branch_target(marks, len, next, word) {
-        Target::Legal(to) => (to % 0x1_0000_0000) as u64 * 2 + 1,
-        Target::Illegal(spot) => two_complement(spot) % 0x1_0000_0000 * 2,
+        Ok(to) => (to % 0x1_0000_0000) as u64 * 2 + 1,
+        Err(spot) => answers::signed_word(spot) % 0x1_0000_0000 * 2,
     }
 }
 
 #[unsafe(no_mangle)]
 pub extern "C" fn probe_lookup(ids: &[u16], counts: &[u16], flags: &[u16], id: u16) -> u32 {
-    match codes::lookup(ids, counts, flags, id) {
-        Entry::Unknown => 0,
-        Entry::Listed { count, flag } => count as u32 * 4 + (flag % 2) as u32 * 2 + 1,
+    match codes::lookup(&CodeList { ids, counts, flags }, id) {
+        None => 0,
+        Some(listed) => listed.count as u32 * 4 + (listed.flag % 2) as u32 * 2 + 1,
     }
 }
 
@@ -100,22 +89,30 @@ pub extern "C" fn probe_stack(
     flags: &[u16],
     code: &[u8],
 ) -> u32 {
-    let verdict = stack::stack_check(
-        marks,
-        depths,
-        queue,
-        queue_depths,
+    let functions = Functions {
         ids,
         parameters,
         maxima,
         offsets,
         lengths,
-        list_ids,
+    };
+    let list = CodeList {
+        ids: list_ids,
         counts,
         flags,
+    };
+    let program = Program {
+        functions,
+        list,
         code,
-    );
-    put_fields(answer, stack::fields(verdict))
+    };
+    let mut scratch = Scratch {
+        marks,
+        depths,
+        queue,
+        queue_depths,
+    };
+    put_fields(answer, stack::fields(stack::stack_check(&mut scratch, &program)))
 }
 
 // The pool call: its six fields go into the answer.
@@ -141,25 +138,35 @@ pub extern "C" fn probe_pool(
     entries: &[u16],
     pool: u16,
 ) -> u32 {
-    let verdict = pool::pool_check(
-        marks,
-        depths,
-        queue,
-        queue_depths,
-        callee_cells,
+    let functions = Functions {
         ids,
         parameters,
         maxima,
         offsets,
         lengths,
-        list_ids,
+    };
+    let list = CodeList {
+        ids: list_ids,
         counts,
         flags,
+    };
+    let program = Program {
+        functions,
+        list,
         code,
-        types,
-        callees,
+    };
+    let whole = PoolProgram {
+        program,
+        descriptors: Descriptors { types, callees },
         entries,
         pool,
-    );
+    };
+    let mut scratch = Scratch {
+        marks,
+        depths,
+        queue,
+        queue_depths,
+    };
+    let verdict = pool::pool_check(&mut scratch, callee_cells, &whole);
     put_fields(answer, pool::fields(verdict))
 }
