@@ -1,20 +1,18 @@
--- A column filled from its front, cell by cell: what is still to be laid from a cell on gives what the whole was to give. One law for
--- every loop that fills cells, and the columns of a table over its width and the column's index.
+-- A column filled from its front, cell by cell, and the columns of a table over its width and the column's index.
 -- Assumes nothing.
-use Prim.Native.Nat.{ℕ, zero, suc, ◌+◌, ◌-◌, ◌*◌, ◌<◌, ◌≤◌}
+use Prim.Native.Nat.{ℕ, zero, suc, ◌+◌, ◌*◌, ◌<◌, ◌≤◌}
 use mathlib.Core.Path.{◌≡◌, refl, sym, ◌∙◌, ap}
 use mathlib.Core.List.{List, [], ◌∷◌, ◌++◌, append_assoc}
 use native.Mathlib.Omega.{arith}
 use native.Mathlib.Numerals.{add-one}
 use native.Mathlib.Nat.{add-zero, zero-add, zero-mul, suc-mul}
-use lib.ListN.{length, get_or, set, take, drop, take-append-drop, length-drop, get_or-append}
-use Rattle.std.proofs.Common.{length-take-le}
-use lib.Seq.{take-suc-set, drop-set-lt, get_or-drop, drop-drop, drop-append-le}
+use lib.ListN.{length, drop_of_length-le, get_or, set, take, drop, take-append-drop, length-drop, get_or-append}
+use Rattle.std.proofs.lemmas.List.{set_at}
+use Rattle.std.proofs.Common.{length-append, append-nil}
+use lib.Seq.{take-suc-set, drop-cons, drop-set-lt, get_or-drop, drop-append-le}
 use Rattle.seven.specs.Write.{laid}
-use Rattle.file.specs.declared.Table.{Table}
-use Rattle.file.specs.Numbers.{numbers}
-use Rattle.file.specs.Columns.{column_of, numbers_of_table, over}
-use Rattle.file.proofs.RunLaws.{one_less}
+use Rattle.file.specs.Columns.{column_of, over}
+use Rattle.file.specs.Transposed.{column_length}
 
 pub laid_start : (column front : List ℕ) → laid column 0 front ≡ over front column
 unfolding laid over
@@ -34,40 +32,62 @@ pub laid_end : (column : List ℕ) (i : ℕ) → laid column i [] ≡ column
 unfolding laid
 laid_end column i = rw add-zero (take-append-drop i column)
 
-pub over_nothing : (column : List ℕ) → over [] column ≡ column
-unfolding over
-over_nothing column = refl
-
--- a turn of a loop that fills cells
-pub laid_turn : (column rest whole : List ℕ) (i v : ℕ) (front : List ℕ) → i < length column → front ≡ v ∷ rest →
-    laid column i front ≡ whole → laid (set column i v) (i + 1) rest ≡ whole
-laid_turn column rest whole i v front h e goes_on =
-    laid_step column rest i v h ∙ (ap (λ (l : List ℕ). laid column i l) (sym e) ∙ goes_on)
-
 -- the loop's end
 pub laid_done : (column whole : List ℕ) (i : ℕ) (front : List ℕ) → front ≡ [] → laid column i front ≡ whole → column ≡ whole
 laid_done column whole i front e goes_on =
     sym (laid_end column i) ∙ (ap (λ (l : List ℕ). laid column i l) (sym e) ∙ goes_on)
 
--- a column of a table: its next cell
-pub next_cell : (numbers : List ℕ) (width index count base i : ℕ) → i < count →
-    column_of width index (count - i) (drop base numbers) ≡
-    get_or numbers (base + index) 0 ∷ column_of width index (count - (i + 1)) (drop (base + width) numbers)
-unfolding column_of
-next_cell numbers width index count base i h =
-    rw (one_less count i h, get_or-drop base numbers index 0, drop-drop width base numbers)
+pub over_all : (front column : List ℕ) → length front ≡ length column → over front column ≡ front
+unfolding over
+over_all front column e =
+    let rest : drop (length front) column ≡ [] = drop_of_length-le column (omega arith) in
+    ap (λ (l : List ℕ). front ++ l) rest ∙ append-nil front
 
-pub no_cell : (numbers : List ℕ) (width index count base i : ℕ) → count ≤ i → column_of width index (count - i) (drop base numbers) ≡ []
-unfolding column_of
-no_cell numbers width index count base i h = let z : count - i ≡ 0 = omega arith in rw z
+-- one number more in front of a column
+pub over_next : (front column : List ℕ) (i v : ℕ) → length front ≡ i → i < length column →
+    set (over front column) i v ≡ over (front ++ (v ∷ [])) column
+unfolding over
+over_next front column i v e h =
+    let there : drop (length front) column ≡ get_or column (length front) 0 ∷ drop (suc (length front)) column = drop-cons column (length front) 0 (omega arith) in
+    let n : suc (length front) ≡ length (front ++ (v ∷ [])) = sym (length-append front (v ∷ []) ∙ add-one (length front)) in
+    rw there
+    (set_at front (get_or column (length front) 0) (drop (suc (length front)) column) v i e
+    ∙ (sym (append_assoc front (v ∷ []) (drop (suc (length front)) column)) ∙ ap (λ (k : ℕ). (front ++ (v ∷ [])) ++ drop k column) n))
 
--- the numbers of the next row are there
-pub next_row : (count width base i size : ℕ) → i < count → (count - i) * width + base ≤ size →
-    (base + width ≤ size) × ((count - (i + 1)) * width + (base + width) ≤ size)
-next_row count width base i size h room =
-    let e : (count - i) * width ≡ (count - (i + 1)) * width + width =
-    ap (λ (n : ℕ). n * width) (one_less count i h) ∙ suc-mul (count - (i + 1)) width in
-    (omega arith, omega arith)
+-- one cell more of a table's column
+pub column_next : (width k i : ℕ) (ns : List ℕ) → column_of width k (suc i) ns ≡ column_of width k i ns ++ (get_or ns (i * width + k) 0 ∷ [])
+unfolding column_of
+column_next width k zero ns = rw (zero-mul, zero-add)
+column_next width k (suc i) ns =
+    let there : suc i * width + k ≡ width + (i * width + k) = ap (λ (n : ℕ). n + k) (suc-mul i width) ∙ omega arith in
+    ap (λ (l : List ℕ). get_or ns k 0 ∷ l)
+    (column_next width k i (drop width ns)
+    ∙ ap (λ (n : ℕ). column_of width k i (drop width ns) ++ (n ∷ [])) (get_or-drop width ns (i * width + k) 0 ∙ ap (λ (n : ℕ). get_or ns n 0) (sym there)))
+
+-- a loop that fills a table's column: as it begins, and at a turn
+pub filled_none : (ns column : List ℕ) (width k : ℕ) → column ≡ over (column_of width k 0 ns) column
+unfolding column_of over
+filled_none ns column width k = refl
+
+pub filled_next : (ns column₀ column : List ℕ) (width k i v : ℕ) → i < length column₀ → v ≡ get_or ns (i * width + k) 0 →
+    column ≡ over (column_of width k i ns) column₀ → set column i v ≡ over (column_of width k (i + 1) ns) column₀
+filled_next ns column₀ column width k i v h value e =
+    rw e
+    (over_next (column_of width k i ns) column₀ i v (column_length width k i ns) h
+    ∙ ap (λ (l : List ℕ). over l column₀)
+    (ap (λ (n : ℕ). column_of width k i ns ++ (n ∷ [])) value ∙ (sym (column_next width k i ns) ∙ ap (λ (n : ℕ). column_of width k n ns) (sym (add-one i)))))
+
+-- a front that was copied
+pub copied : (front part column : List ℕ) (n : ℕ) → part ≡ front → length front ≡ n → part ++ drop n column ≡ over front column
+unfolding over
+copied front part column n e f = rw (e, f)
+
+-- a table of one column
+pub one_column : (count : ℕ) (ns : List ℕ) → count ≤ length ns → column_of 1 0 count ns ≡ take count ns
+unfolding column_of
+one_column zero ns h = refl
+one_column (suc count) [] h = absurd (omega arith)
+one_column (suc count) (n ∷ ns) h = ap (λ (l : List ℕ). n ∷ l) (one_column count ns (omega arith))
 
 -- what stands behind the numbers of a table has no part in its columns
 pub column_front : (width k count : ℕ) (front back : List ℕ) → k < width → count * width ≤ length front →
@@ -77,18 +97,3 @@ column_front width k zero front back lt h = refl
 column_front width k (suc count) front back lt h =
     let h' : count * width + width ≤ length front = rw suc-mul at h in
     rw (get_or-append front back 0 k (omega arith), drop-append-le width front back (omega arith), column_front width k count (drop width front) back lt (rw length-drop (omega arith)))
-
--- the code's bytes, in the words of the code that copies them
-pub copied : (file column part : List ℕ) (start count size : ℕ) → size ≡ count → start + count ≤ length file →
-    part ≡ take (start + size - start) (drop start file) →
-    part ++ drop (start + size - start) column ≡ over (take count (drop start file)) column
-unfolding over
-copied file column part start count size e within copy =
-    let n : start + size - start ≡ count = omega arith in
-    let l : length (take count (drop start file)) ≡ count = length-take-le count (drop start file) (rw length-drop (omega arith)) in
-    rw (n, l, (rw n at copy)) refl
-
--- a table without a row has nothing to lay
-pub nothing_laid : (file column : List ℕ) (table : Table) (width : ℕ) → table.count ≡ 0 → column ≡ over (numbers_of_table file table width) column
-unfolding numbers_of_table numbers
-nothing_laid file column table width e = rw (e, zero-mul) (sym (over_nothing column))

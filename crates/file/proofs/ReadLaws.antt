@@ -10,43 +10,22 @@ use lib.ListN.{length, take, drop, length-drop}
 use lib.Seq.{length-take-le}
 use lib.Dec.{ltb}
 use borrow.Author.Tests.{ltb-false}
-use Rattle.file.specs.declared.Reading.{Reading}
-use Rattle.file.specs.declared.Reading.TheVariants.{At, Stopped}
+use Rattle.std.specs.Prelude.{Ok, Err}
+use Rattle.file.specs.declared.Refused.{Refused}
 use Rattle.file.specs.declared.Table.{Table}
 use Rattle.file.specs.declared.Layout.{Layout}
 use Rattle.file.specs.declared.Sizes.{Sizes}
-use Rattle.file.specs.declared.Outcome.TheVariants.{Read, Refused}
+use Rattle.file.specs.declared.measure.Numbers.{Numbers}
 use Rattle.seven.specs.Seven.{Bytes}
+use Rattle.file.specs.Numbers as n
 use Rattle.file.specs.Numbers.{numbers}
-use Rattle.file.specs.Tables.{layout_of, pool_of, rows_of, functions_of, descriptors_of, entries_of, code_of}
+use Rattle.file.specs.Tables.{layout_of}
 use Rattle.file.specs.Columns.{column_of, column_at, numbers_of_table, over}
-use Rattle.file.proofs.TableLaws.{Stood, low, whole, all_there}
+use Rattle.file.proofs.TableLaws.{Stood, Whole, whole, all_there}
 use Rattle.file.proofs.LaidLaws.{column_front}
 use Rattle.file.specs.Transposed.{column_length}
-use Rattle.file.specs.Stated.{tables_from, Columns, columns, states, refuses, tables_in, bench_of, stated_by, stated, below, short_room, room_of, read_into, sizes_of, sizes_in, outcome_of, laid_over, leaves, Ready}
-
--- the columns, one by one, are the tables' laid over
-pub laid_columns : (rows functions descriptors entries file : List ℕ) (layout : Layout) (n f d e : ℕ) (x0 x1 x2 x3 x4 x5 x6 x7 x8 x9 x10 x11 z0 z1 z2 z3 z4 z5 z6 z7 z8 z9 z10 z11 : List ℕ) →
-    n ≡ layout.rows.count →
-    f ≡ layout.functions.count →
-    d ≡ layout.descriptors.count →
-    e ≡ layout.entries.count →
-    z0 ≡ over (column_of 3 0 n rows) x0 →
-    z1 ≡ over (column_of 3 1 n rows) x1 →
-    z2 ≡ over (column_of 3 2 n rows) x2 →
-    z3 ≡ over (column_of 5 0 f functions) x3 →
-    z4 ≡ over (column_of 5 1 f functions) x4 →
-    z5 ≡ over (column_of 5 2 f functions) x5 →
-    z6 ≡ over (column_of 5 3 f functions) x6 →
-    z7 ≡ over (column_of 5 4 f functions) x7 →
-    z8 ≡ over (column_of 2 0 d descriptors) x8 →
-    z9 ≡ over (column_of 2 1 d descriptors) x9 →
-    z10 ≡ over (column_of 1 0 e entries) x10 →
-    z11 ≡ over (take layout.code.count (drop layout.code.start file)) x11 →
-    columns z0 z1 z2 z3 z4 z5 z6 z7 z8 z9 z10 z11 ≡ laid_over (tables_from rows functions descriptors entries file layout) (columns x0 x1 x2 x3 x4 x5 x6 x7 x8 x9 x10 x11)
-unfolding laid_over tables_from
-laid_columns rows functions descriptors entries file layout n f d e x0 x1 x2 x3 x4 x5 x6 x7 x8 x9 x10 x11 z0 z1 z2 z3 z4 z5 z6 z7 z8 z9 z10 z11 n_is f-is d-is e-is p0 p1 p2 p3 p4 p5 p6 p7 p8 p9 p10 p11 =
-    rw (p0, p1, p2, p3, p4, p5, p6, p7, p8, p9, p10, p11, n_is, f-is, d-is, e-is)
+use Rattle.file.specs.Measured.{Measured, tables_from, Ready}
+use Rattle.file.specs.Stated.{Columns, states, refuses, tables_in, bench_of, stated_by, stated, below, short_room, room_of, read_into, sizes_of, sizes_in, outcome_of, laid_over, leaves}
 
 -- a test that comes out false was false in all its parts
 neither : (t x : Bool) → cond t true x ≡ false → (t ≡ false) × (x ≡ false)
@@ -106,92 +85,89 @@ pub was_short : (lent : Columns) (file : List ℕ) → short_room (room_of lent)
 unfolding read_into
 was_short lent file e = rw e
 
-pub was_stopped : (lent : Columns) (file : List ℕ) {number place : ℕ} → short_room (room_of lent) ≡ false →
-    (layout_of file).end ≡ Stopped number place → read_into lent file ≡ refuses number place
+pub was_refused : (lent : Columns) (file : List ℕ) (r : Refused) → short_room (room_of lent) ≡ false → layout_of file ≡ Err r →
+    read_into lent file ≡ refuses r.number r.place
 unfolding read_into stated stated_by
-was_stopped lent file e h = rw (e, h)
+was_refused lent file r e h = rw (e, h)
 
-was_read : (lent : Columns) (file : List ℕ) {end : ℕ} → short_room (room_of lent) ≡ false → (layout_of file).end ≡ At end →
-    read_into lent file ≡ states (bench_of file)
+was_read : (lent : Columns) (file : List ℕ) (layout : Layout) → short_room (room_of lent) ≡ false → layout_of file ≡ Ok layout →
+    read_into lent file ≡ states (bench_of file layout)
 unfolding read_into stated stated_by
-was_read lent file e h = rw (e, h)
+was_read lent file layout e h = rw (e, h)
 
 pub refused : (lent : Columns) (file : List ℕ) {number place : ℕ} → read_into lent file ≡ refuses number place →
-    (Refused number place ≡ outcome_of (read_into lent file)) × (lent ≡ leaves (read_into lent file) lent)
+    (Err (n.refused number place) ≡ outcome_of (read_into lent file)) × (lent ≡ leaves (read_into lent file) lent)
 unfolding outcome_of leaves
 refused lent file e = rw e (refl, refl)
 
 -- the columns have a cell for each row, and the code's bytes are there
-pub ready : (lent : Columns) (file : List ℕ) (end : ℕ) → Bytes file → short_room (room_of lent) ≡ false → (layout_of file).end ≡ At end →
-    Ready file (layout_of file) lent
-unfolding layout_of rows_of functions_of descriptors_of entries_of code_of
-ready lent file end all short-not h =
+pub ready : (lent : Columns) (file : List ℕ) (layout : Layout) → Bytes file → short_room (room_of lent) ≡ false → layout_of file ≡ Ok layout →
+    Ready file layout lent
+ready lent file layout all short-not h =
     let r : Roomy lent = roomy lent short-not in
-    let rows : (rows_of file).count ≤ 6144 = low file (pool_of file).after 6144 3 in
-    let functions : (functions_of file).count ≤ 128 = low file (rows_of file).after 128 5 in
-    let descriptors : (descriptors_of file).count ≤ 256 = low file (functions_of file).after 256 2 in
-    let entries : (entries_of file).count ≤ 32 = low file (descriptors_of file).after 32 1 in
-    let code : (code_of file).count ≤ 12288 = low file (entries_of file).after 12288 0 in
+    let w : Whole file layout = whole file layout all h in
     record {
-      list_ids_room = le_trans rows r.list_ids;
-      list_counts_room = le_trans rows r.list_counts;
-      list_flags_room = le_trans rows r.list_flags;
-      function_ids_room = le_trans functions r.function_ids;
-      parameters_room = le_trans functions r.parameters;
-      maxima_room = le_trans functions r.maxima;
-      offsets_room = le_trans functions r.offsets;
-      lengths_room = le_trans functions r.lengths;
-      type_ids_room = le_trans descriptors r.type_ids;
-      descriptor_functions_room = le_trans descriptors r.descriptor_functions;
-      entries_room = le_trans entries r.entries;
-      code_room = le_trans code r.code;
-      code_there = omega (arith, (whole file end all h).length_is);
-      rows_low = rows;
-      functions_low = functions;
-      descriptors_low = descriptors;
-      entries_low = entries;
+      list_ids_room = le_trans w.rows.low r.list_ids;
+      list_counts_room = le_trans w.rows.low r.list_counts;
+      list_flags_room = le_trans w.rows.low r.list_flags;
+      function_ids_room = le_trans w.functions.low r.function_ids;
+      parameters_room = le_trans w.functions.low r.parameters;
+      maxima_room = le_trans w.functions.low r.maxima;
+      offsets_room = le_trans w.functions.low r.offsets;
+      lengths_room = le_trans w.functions.low r.lengths;
+      type_ids_room = le_trans w.descriptors.low r.type_ids;
+      descriptor_functions_room = le_trans w.descriptors.low r.descriptor_functions;
+      entries_room = le_trans w.entries.low r.entries;
+      code_room = le_trans w.code.low r.code;
+      code_there = omega (arith, w.length_is);
+      rows_low = w.rows.low;
+      functions_low = w.functions.low;
+      descriptors_low = w.descriptors.low;
+      entries_low = w.entries.low;
     }
 
-sizes_are : (file : List ℕ) → (layout_of file).code.start + (layout_of file).code.count ≤ length file → sizes_in (layout_of file) ≡ sizes_of (bench_of file)
+sizes_are : (file : List ℕ) (layout : Layout) → layout.code.start + layout.code.count ≤ length file → sizes_in layout ≡ sizes_of (bench_of file layout)
 unfolding sizes_in sizes_of bench_of tables_in column_at
-sizes_are file there =
-    let code : length (take (layout_of file).code.count (drop (layout_of file).code.start file)) ≡ (layout_of file).code.count =
-    length-take-le (layout_of file).code.count (drop (layout_of file).code.start file) (rw length-drop (omega arith)) in
-    rw (column_length 3 0 (layout_of file).rows.count, column_length 5 0 (layout_of file).functions.count, column_length 2 0 (layout_of file).descriptors.count, column_length 1 0 (layout_of file).entries.count, code)
+sizes_are file layout there =
+    let code : length (take layout.code.count (drop layout.code.start file)) ≡ layout.code.count =
+    length-take-le layout.code.count (drop layout.code.start file) (rw length-drop (omega arith)) in
+    rw (column_length 3 0 layout.rows.count, column_length 5 0 layout.functions.count, column_length 2 0 layout.descriptors.count, column_length 1 0 layout.entries.count, code)
 
 -- the numbers of a table that was read to its end, in the front of its cells, give its columns
-from_cells : (file before : List ℕ) (cells : List ℕ) {reading : Reading} {limit end : ℕ} {table : Table} (width k : ℕ) → k < width →
-    Stood file reading limit width table end → cells ≡ over (numbers_of_table file table width) before →
-    column_of width k table.count cells ≡ column_at file table width k
+from_cells : (file before cells : List ℕ) {at limit : ℕ} {table : Table} (width k : ℕ) → k < width → Stood file at limit width table →
+    cells ≡ over (numbers_of_table file table width) before → column_of width k table.count cells ≡ column_at file table width k
 unfolding column_at over numbers_of_table
-from_cells file before cells {reading} {limit} {end} {table} width k lt stood e =
+from_cells file before cells {at} {limit} {table} width k lt stood e =
     rw e
     (column_front width k table.count (numbers (table.count * width) file table.start) _ lt
-    (omega (arith, all_there (table.count * width) file table.start end stood.run)))
+    (omega (arith, all_there (table.count * width) file table.start table.end stood.run)))
 
-tables_same : (file rows functions descriptors entries rows₀ functions₀ descriptors₀ entries₀ : List ℕ) (end : ℕ) → Bytes file →
-    (layout_of file).end ≡ At end →
-    rows ≡ over (numbers_of_table file (layout_of file).rows 3) rows₀ →
-    functions ≡ over (numbers_of_table file (layout_of file).functions 5) functions₀ →
-    descriptors ≡ over (numbers_of_table file (layout_of file).descriptors 2) descriptors₀ →
-    entries ≡ over (numbers_of_table file (layout_of file).entries 1) entries₀ →
-    tables_from rows functions descriptors entries file (layout_of file) ≡ tables_in file (layout_of file)
-unfolding tables_from tables_in layout_of
-tables_same file rows functions descriptors entries rows₀ functions₀ descriptors₀ entries₀ end all h a b d e =
-    let w = whole file end all h in
-    rw (from_cells file rows₀ rows 3 0 (omega arith) w.rows a, from_cells file rows₀ rows 3 1 (omega arith) w.rows a, from_cells file rows₀ rows 3 2 (omega arith) w.rows a, from_cells file functions₀ functions 5 0 (omega arith) w.functions b, from_cells file functions₀ functions 5 1 (omega arith) w.functions b, from_cells file functions₀ functions 5 2 (omega arith) w.functions b, from_cells file functions₀ functions 5 3 (omega arith) w.functions b, from_cells file functions₀ functions 5 4 (omega arith) w.functions b, from_cells file descriptors₀ descriptors 2 0 (omega arith) w.descriptors d, from_cells file descriptors₀ descriptors 2 1 (omega arith) w.descriptors d, from_cells file entries₀ entries 1 0 (omega arith) w.entries e)
+tables_same : (file : List ℕ) (layout : Layout) (before after : Numbers) → Bytes file → layout_of file ≡ Ok layout → Measured file layout before after →
+    tables_from after file layout ≡ tables_in file layout
+unfolding tables_from tables_in
+tables_same file layout b a all h m =
+    let w : Whole file layout = whole file layout all h in
+    rw (
+      from_cells file b.rows a.rows 3 0 (omega arith) w.rows m.rows,
+      from_cells file b.rows a.rows 3 1 (omega arith) w.rows m.rows,
+      from_cells file b.rows a.rows 3 2 (omega arith) w.rows m.rows,
+      from_cells file b.functions a.functions 5 0 (omega arith) w.functions m.functions,
+      from_cells file b.functions a.functions 5 1 (omega arith) w.functions m.functions,
+      from_cells file b.functions a.functions 5 2 (omega arith) w.functions m.functions,
+      from_cells file b.functions a.functions 5 3 (omega arith) w.functions m.functions,
+      from_cells file b.functions a.functions 5 4 (omega arith) w.functions m.functions,
+      from_cells file b.descriptors a.descriptors 2 0 (omega arith) w.descriptors m.descriptors,
+      from_cells file b.descriptors a.descriptors 2 1 (omega arith) w.descriptors m.descriptors,
+      from_cells file b.entries a.entries 1 0 (omega arith) w.entries m.entries,
+    )
 
-pub finished : (lent after : Columns) (rows functions descriptors entries rows₀ functions₀ descriptors₀ entries₀ file : List ℕ) (end : ℕ)
-    (sizes : Sizes) → Bytes file → short_room (room_of lent) ≡ false → (layout_of file).end ≡ At end →
-    rows ≡ over (numbers_of_table file (layout_of file).rows 3) rows₀ →
-    functions ≡ over (numbers_of_table file (layout_of file).functions 5) functions₀ →
-    descriptors ≡ over (numbers_of_table file (layout_of file).descriptors 2) descriptors₀ →
-    entries ≡ over (numbers_of_table file (layout_of file).entries 1) entries₀ →
-    after ≡ laid_over (tables_from rows functions descriptors entries file (layout_of file)) lent → sizes ≡ sizes_in (layout_of file) →
-    (Read sizes ≡ outcome_of (read_into lent file)) × (after ≡ leaves (read_into lent file) lent)
+pub finished : (lent after : Columns) (file : List ℕ) (layout : Layout) (b a : Numbers) (sizes : Sizes) → Bytes file →
+    short_room (room_of lent) ≡ false → layout_of file ≡ Ok layout → Measured file layout b a →
+    after ≡ laid_over (tables_from a file layout) lent → sizes ≡ sizes_in layout →
+    (Ok sizes ≡ outcome_of (read_into lent file)) × (after ≡ leaves (read_into lent file) lent)
 unfolding outcome_of leaves bench_of
-finished lent after rows functions descriptors entries rows₀ functions₀ descriptors₀ entries₀ file end sizes all short-not h a b d e after_is sizes-is =
-    rw (was_read lent file short-not h) (
-      ap Read (sizes-is ∙ sizes_are file (ready lent file end all short-not h).code_there),
-      after_is ∙ ap (λ (t : Columns). laid_over t lent) (tables_same file rows functions descriptors entries rows₀ functions₀ descriptors₀ entries₀ end all h a b d e),
+finished lent after file layout b a sizes all short-not h m after_is sizes-is =
+    rw (was_read lent file layout short-not h) (
+      ap Ok (sizes-is ∙ sizes_are file layout (ready lent file layout all short-not h).code_there),
+      after_is ∙ ap (λ (t : Columns). laid_over t lent) (tables_same file layout b a all h m),
     )

@@ -1,146 +1,112 @@
--- A table that was read to its end: where its count stood, that it is within its limit, and where its rows end.
+-- A table that was read: where its count stood, that it is within its limit, and where its rows end.
 -- Assumes nothing.
-use Rattle.std.specs.Prelude.{ℕ, zero, suc, ◌+◌, ◌-◌, ◌*◌, ◌≤◌, ◌≡◌, refl, List, ◌∷◌, length, ltb}
+use Rattle.std.specs.Prelude.{ℕ, zero, suc, ◌+◌, ◌-◌, ◌*◌, ◌≤◌, ◌≡◌, refl, List, ◌∷◌, length, ltb, Result, Ok, Err}
 use Rattle.std.proofs.Common.{ap, arith, mul-zero, ltb-false}
 use Rattle.seven.specs.declared.Number.{Number}
-use Rattle.seven.specs.declared.Number.TheVariants as N
-use Rattle.seven.specs.Seven.{number_at, Bytes}
+use Rattle.seven.specs.declared.Misread.{Misread}
+use Rattle.seven.specs.Seven.{value, number_at, Bytes}
 use Rattle.seven.proofs.Forms.{by_test}
 use Rattle.seven.proofs.Laws.{Stands, stands}
-use Rattle.file.specs.declared.Reading.{Reading}
-use Rattle.file.specs.declared.Reading.TheVariants.{At, Stopped}
-use Rattle.file.specs.declared.Run.{Run}
-use Rattle.file.specs.declared.Run.TheVariants as R
+use Rattle.file.specs.declared.Refused.{Refused}
 use Rattle.file.specs.declared.Table.{Table}
-use Rattle.file.specs.Numbers.{on_number, on_value, run_of, numbers}
-use Rattle.file.specs.Tables.{after_run, halted, on_count, counted, table_of, begin, code_end, layout_of, pool_of, rows_of, functions_of, descriptors_of, entries_of, code_of, end_of}
+use Rattle.file.specs.declared.Layout.{Layout}
+use Rattle.file.specs.Numbers.{if_read, or_refused, number_in, run_of, on_value, numbers}
+use Rattle.file.specs.Tables.{table, on_count, table_of, code_end, layout_of}
+use Rattle.file.proofs.RunLaws.{never, same_result, there}
 
-pub record Stood (file : List ℕ) (before : Reading) (limit width : ℕ) (table : Table) (end : ℕ) : Type 0 where
-  pub at : ℕ
-  pub from : before ≡ At at
-  pub number : number_at file at ≡ N.Value table.count table.start
-  pub low : table.count ≤ limit
-  pub run : run_of (table.count * width) file table.start ≡ R.Done end
+pub record Stood (file : List ℕ) (at limit width : ℕ) (t : Table) : Type 0 where
+  pub number : number_at file at ≡ value t.count t.start
+  pub low : t.count ≤ limit
+  pub run : run_of (t.count * width) file t.start ≡ Ok t.end
 
-pub never_at : {P : Type 0} {number place end : ℕ} → ◌≡◌ {A = Reading} (Stopped number place) (At end) → P
-never_at e = absurd (let z : ◌≡◌ {A = ℕ} 0 1 = cc in omega arith)
+-- what came first, where reading went on to its end
+pub went_on : {A B P : Type 0} (r : Result A Refused) (go : A → Result B Refused) (y : B) → if_read r go ≡ Ok y → ((x : A) → r ≡ Ok x → go x ≡ Ok y → P) → P
+went_on (Ok x) go y e follows = follows x refl e
+went_on (Err d) go y e follows = never e
 
-run_done : (file : List ℕ) (run : Run) (end : ℕ) → after_run file run ≡ At end → run ≡ R.Done end
-unfolding after_run
-run_done file (R.Done next) end e = cc
-run_done file (R.Bad place) end e = never_at e
-run_done file R.Early end e = never_at e
+counted : (file : List ℕ) (at limit width : ℕ) (x : Number) (t : Table) → number_at file at ≡ Ok x → on_count file limit width x ≡ Ok t →
+    Stood file at limit width t
+unfolding on_count
+counted file at limit width x t here e =
+    by_test (ltb limit x.n)
+    (λ high. never (simp high at e))
+    (λ low.
+    went_on (run_of (x.n * width) file x.next) (λ (end : ℕ). Ok (table x.n x.next end)) t (simp low at e) (λ end run all.
+    let same : table x.n x.next end ≡ t = same_result all in
+    rw (← same) (record { number = here; low = ltb-false limit x.n low; run = run })))
 
-on_count_lem : (file : List ℕ) (at limit width end : ℕ) (x : Number) → number_at file at ≡ x →
-    (on_count file at limit width x).after ≡ At end → Stood file (At at) limit width (on_count file at limit width x) end
-unfolding on_count halted
-on_count_lem file at limit width end (N.Value n next) p e =
-    by_test (ltb limit n)
-    (λ t. never_at (simp t at e))
-    (λ t.
-    rw t
-    (record { at = at; from = refl; number = p; low = ltb-false limit n t; run = run_done file (run_of (n * width) file next) end (simp t at e) }))
-on_count_lem file at limit width end N.Bad p e = never_at e
-on_count_lem file at limit width end N.Early p e = never_at e
-
-pub stood : (file : List ℕ) (before : Reading) (limit width end : ℕ) → (table_of file before limit width).after ≡ At end →
-    Stood file before limit width (table_of file before limit width) end
-unfolding table_of counted halted
-stood file (At at) limit width end e = on_count_lem file at limit width end (number_at file at) refl e
-stood file (Stopped number place) limit width end e = never_at e
-
--- every count is within its limit, whether or not the table was read
-low_count : (file : List ℕ) (at limit width : ℕ) (x : Number) → (on_count file at limit width x).count ≤ limit
-unfolding on_count halted
-low_count file at limit width (N.Value n next) =
-    by_test (ltb limit n) (λ t. rw t (omega arith)) (λ t. rw t (ltb-false limit n t))
-low_count file at limit width N.Bad = omega arith
-low_count file at limit width N.Early = omega arith
-
-pub low : (file : List ℕ) (before : Reading) (limit width : ℕ) → (table_of file before limit width).count ≤ limit
-unfolding table_of counted halted
-low file (At at) limit width = low_count file at limit width (number_at file at)
-low file (Stopped number place) limit width = omega arith
+pub stood : (file : List ℕ) (at limit width : ℕ) (t : Table) → table_of file at limit width ≡ Ok t → Stood file at limit width t
+unfolding table_of
+stood file at limit width t e =
+    went_on (number_in file at) (λ (x : Number). on_count file limit width x) t e (λ x here f.
+    counted file at limit width x t (there file at x here) f)
 
 -- a count without rows ends where its number ends
-pub no_rows : {file : List ℕ} {before : Reading} {limit end : ℕ} {table : Table} → Stood file before limit 0 table end → table.start ≡ end
+pub no_rows : {file : List ℕ} {at limit : ℕ} {t : Table} → Stood file at limit 0 t → t.start ≡ t.end
 unfolding run_of
-no_rows {file} {before} {limit} {end} {table} s =
-    let e : R.Done table.start ≡ R.Done end = simp mul-zero at s.run in
+no_rows {file} {at} {limit} {t} s =
+    let e : ◌≡◌ {A = Result ℕ Refused} (Ok t.start) (Ok t.end) = simp mul-zero at s.run in
     cc
 
 -- the code's bytes end the file
-end_of_code : (file : List ℕ) (count start end : ℕ) → start ≤ length file → code_end file count (At start) ≡ At end →
-    (start + count ≡ end) × (end ≡ length file)
+end_of_code : (file : List ℕ) (code : Table) (end : ℕ) → code.end ≤ length file → code_end file code ≡ Ok end → code.end + code.count ≡ length file
 unfolding code_end
-end_of_code file count start end within e =
-    by_test (ltb (length file - start) count)
-    (λ t. never_at (simp t at e))
+end_of_code file code end within e =
+    by_test (ltb (length file - code.end) code.count)
+    (λ t. never (simp t at e))
     (λ t.
-    by_test (ltb count (length file - start))
-    (λ u. never_at (simp (t, u) at e))
-    (λ u.
-    let same : At (start + count) ≡ At end = simp (t, u) at e in
-    let there : start + count ≡ end = cc in
-    (there, omega (arith, ltb-false (length file - start) count t, ltb-false count (length file - start) u))))
-
-ended : (file : List ℕ) (count : ℕ) (before : Reading) (end : ℕ) → code_end file count before ≡ At end → (start : ℕ) × (before ≡ At start)
-unfolding code_end
-ended file count (At start) end e = (start, refl)
-ended file count (Stopped number place) end e = never_at e
+    by_test (ltb code.count (length file - code.end))
+    (λ u. never (simp (t, u) at e))
+    (λ u. omega (arith, ltb-false (length file - code.end) code.count t, ltb-false code.count (length file - code.end) u)))
 
 -- a file that was read to its end: every table was, each from where the one before it ended
-pub record Whole (file : List ℕ) : Type 0 where
-  pub end_of_code : ℕ
-  pub code : Stood file (entries_of file).after 12288 0 (code_of file) end_of_code
-  pub entries : Stood file (descriptors_of file).after 32 1 (entries_of file) code.at
-  pub descriptors : Stood file (functions_of file).after 256 2 (descriptors_of file) entries.at
-  pub functions : Stood file (rows_of file).after 128 5 (functions_of file) descriptors.at
-  pub rows : Stood file (pool_of file).after 6144 3 (rows_of file) functions.at
-  pub pool : Stood file (begin file) 65535 0 (pool_of file) rows.at
-  pub length_is : (code_of file).start + (code_of file).count ≡ length file
+pub record Whole (file : List ℕ) (layout : Layout) : Type 0 where
+  pub short : length file ≤ 65536
+  pub pool : Stood file 0 65535 0 layout.pool
+  pub rows : Stood file layout.pool.end 6144 3 layout.rows
+  pub functions : Stood file layout.rows.end 128 5 layout.functions
+  pub descriptors : Stood file layout.functions.end 256 2 layout.descriptors
+  pub entries : Stood file layout.descriptors.end 32 1 layout.entries
+  pub code : Stood file layout.entries.end 12288 0 layout.code
+  pub length_is : layout.code.start + layout.code.count ≡ length file
 
-pub whole : (file : List ℕ) (end : ℕ) → Bytes file → (layout_of file).end ≡ At end → Whole file
-unfolding layout_of end_of pool_of rows_of functions_of descriptors_of entries_of code_of
-whole file end all e =
-    let p = ended file (code_of file).count (code_of file).after end e in
-    let code : Stood file (entries_of file).after 12288 0 (code_of file) p.0 = stood file (entries_of file).after 12288 0 p.0 p.1 in
-    let entries : Stood file (descriptors_of file).after 32 1 (entries_of file) code.at = stood file (descriptors_of file).after 32 1 code.at code.from in
-    let descriptors : Stood file (functions_of file).after 256 2 (descriptors_of file) entries.at = stood file (functions_of file).after 256 2 entries.at entries.from in
-    let functions : Stood file (rows_of file).after 128 5 (functions_of file) descriptors.at = stood file (rows_of file).after 128 5 descriptors.at descriptors.from in
-    let rows : Stood file (pool_of file).after 6144 3 (rows_of file) functions.at = stood file (pool_of file).after 6144 3 functions.at functions.from in
-    let pool : Stood file (begin file) 65535 0 (pool_of file) rows.at = stood file (begin file) 65535 0 rows.at rows.from in
-    let n : Stands file code.at (code_of file).count (code_of file).start =
-    stands file code.at (code_of file).count (code_of file).start all code.number in
-    let start_is : (code_of file).start ≡ p.0 = no_rows code in
-    let q = end_of_code file (code_of file).count p.0 end (omega (arith, n.within, start_is)) (rw p.1 at e) in
-    record {
-      end_of_code = p.0;
-      code = code;
-      entries = entries;
-      descriptors = descriptors;
-      functions = functions;
-      rows = rows;
-      pool = pool;
-      length_is = omega (arith, start_is, q.0, q.1);
-    }
+pub whole : (file : List ℕ) (layout : Layout) → Bytes file → layout_of file ≡ Ok layout → Whole file layout
+unfolding layout_of
+whole file layout all e =
+    by_test (ltb 65536 (length file))
+    (λ long. never (simp long at e))
+    (λ short.
+    went_on (table_of file 0 65535 0) _ layout (simp short at e) (λ pool pool_is e₁.
+    went_on (table_of file pool.end 6144 3) _ layout e₁ (λ rows rows_is e₂.
+    went_on (table_of file rows.end 128 5) _ layout e₂ (λ functions functions_is e₃.
+    went_on (table_of file functions.end 256 2) _ layout e₃ (λ descriptors descriptors_is e₄.
+    went_on (table_of file descriptors.end 32 1) _ layout e₄ (λ entries entries_is e₅.
+    went_on (table_of file entries.end 12288 0) _ layout e₅ (λ code code_is e₆.
+    went_on (code_end file code) _ layout e₆ (λ end end_is e₇.
+    let c : Stood file entries.end 12288 0 code = stood file entries.end 12288 0 code code_is in
+    let n : Stands file entries.end code.count code.start = stands file entries.end code.count code.start all c.number in
+    let start_is : code.start ≡ code.end = no_rows c in
+    rw (← same_result e₇)
+    (record {
+      short = ltb-false 65536 (length file) short;
+      pool = stood file 0 65535 0 pool pool_is;
+      rows = stood file pool.end 6144 3 rows rows_is;
+      functions = stood file rows.end 128 5 functions functions_is;
+      descriptors = stood file functions.end 256 2 descriptors descriptors_is;
+      entries = stood file descriptors.end 32 1 entries entries_is;
+      code = c;
+      length_is = omega (arith, start_is, end_of_code file code end (omega (arith, n.within, start_is)) end_is);
+    })))))))))
 
-pub no_bad : {P : Type 0} {at end : ℕ} → ◌≡◌ {A = Run} (R.Bad at) (R.Done end) → P
-no_bad e = absurd (let z : ◌≡◌ {A = ℕ} 0 1 = cc in omega arith)
-
-pub no_early : {P : Type 0} {end : ℕ} → ◌≡◌ {A = Run} R.Early (R.Done end) → P
-no_early e = absurd (let z : ◌≡◌ {A = ℕ} 0 1 = cc in omega arith)
-
-one_there : (x : Number) (count : ℕ) (s : List ℕ) (at end : ℕ) →
-    ((next : ℕ) → run_of count s next ≡ R.Done end → length (numbers count s next) ≡ count) →
-    on_number x at (λ (next : ℕ). run_of count s next) ≡ R.Done end →
-    length (on_value x (λ (n next : ℕ). n ∷ numbers count s next)) ≡ suc count
-one_there (N.Value n next) count s at end rest e = ap suc (rest next e)
-one_there N.Bad count s at end rest e = no_bad e
-one_there N.Early count s at end rest e = no_early e
+one_there : (file : List ℕ) (at count end : ℕ) (r : Result Number Misread) →
+    ((next : ℕ) → run_of count file next ≡ Ok end → length (numbers count file next) ≡ count) →
+    if_read (or_refused file at r) (λ (x : Number). run_of count file x.next) ≡ Ok end →
+    length (on_value r (λ (x : Number). x.n ∷ numbers count file x.next)) ≡ suc count
+one_there file at count end (Ok x) rest e = ap suc (rest x.next e)
+one_there file at count end (Err m) rest e = never e
 
 -- a run that was read to its end has as many numbers as it should
-pub all_there : (count : ℕ) (s : List ℕ) (at end : ℕ) → run_of count s at ≡ R.Done end → length (numbers count s at) ≡ count
-unfolding run_of numbers
-all_there zero s at end e = refl
-all_there (suc count) s at end e = one_there (number_at s at) count s at end (λ next f. all_there count s next end f) e
+pub all_there : (count : ℕ) (file : List ℕ) (at end : ℕ) → run_of count file at ≡ Ok end → length (numbers count file at) ≡ count
+unfolding run_of numbers number_in
+all_there zero file at end e = refl
+all_there (suc count) file at end e = one_there file at count end (number_at file at) (λ next f. all_there count file next end f) e

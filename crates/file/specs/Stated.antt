@@ -1,15 +1,14 @@
 -- The program that a bench file states (01, "Bench file, program and C entry"), and what reading leaves in lent columns.
 -- Assumes nothing.
-use Rattle.std.specs.Prelude.{ℕ, ◌+◌, ◌≤◌, List, Bool, true, cond, length, take, drop, ltb}
-use Rattle.file.specs.declared.Reading.{Reading}
-use Rattle.file.specs.declared.Reading.TheVariants.{At, Stopped}
+use Rattle.std.specs.Prelude.{ℕ, ◌≡◌, List, Bool, true, cond, length, take, drop, ltb, Result, Ok, Err}
+use Rattle.file.specs.declared.Refused.{Refused}
 use Rattle.file.specs.declared.Sizes.{Sizes}
 use Rattle.file.specs.declared.Room.{Room}
-use Rattle.file.specs.declared.Outcome.{Outcome}
-use Rattle.file.specs.declared.Outcome.TheVariants.{Read, Refused}
+use Rattle.file.specs.declared.Columns as lent
 use Rattle.file.specs.declared.Layout.{Layout}
+use Rattle.file.specs.Numbers.{refused}
 use Rattle.file.specs.Tables.{layout_of}
-use Rattle.file.specs.Columns.{column_of, column_at, over}
+use Rattle.file.specs.Columns.{column_at, over}
 
 -- "code-list rows (id, argument count, borrows-a-buffer 0 or 1)", "functions (id, parameter count, declared maximum depth, body
 -- offset, body length)", "function-block descriptors (type id, function id ..)", "entry ids", "code bytes"
@@ -45,6 +44,28 @@ columns list_ids list_counts list_flags function_ids parameters maxima offsets l
       code = code;
     }
 
+-- what lent columns hold
+abbrev pub columns_in : lent.Columns → Columns
+columns_in l =
+    columns l.list_ids.now l.list_counts.now l.list_flags.now l.function_ids.now l.parameters.now l.maxima.now l.offsets.now l.lengths.now
+    l.type_ids.now l.descriptor_functions.now l.entries.now l.code.now
+
+-- they are the same columns before and after
+abbrev pub SameColumns : lent.Columns → lent.Columns → Type 0
+SameColumns before after =
+    (after.list_ids.ghost_name ≡ before.list_ids.ghost_name)
+    × (after.list_counts.ghost_name ≡ before.list_counts.ghost_name)
+    × (after.list_flags.ghost_name ≡ before.list_flags.ghost_name)
+    × (after.function_ids.ghost_name ≡ before.function_ids.ghost_name)
+    × (after.parameters.ghost_name ≡ before.parameters.ghost_name)
+    × (after.maxima.ghost_name ≡ before.maxima.ghost_name)
+    × (after.offsets.ghost_name ≡ before.offsets.ghost_name)
+    × (after.lengths.ghost_name ≡ before.lengths.ghost_name)
+    × (after.type_ids.ghost_name ≡ before.type_ids.ghost_name)
+    × (after.descriptor_functions.ghost_name ≡ before.descriptor_functions.ghost_name)
+    × (after.entries.ghost_name ≡ before.entries.ghost_name)
+    × (after.code.ghost_name ≡ before.code.ghost_name)
+
 -- "one declared pool", and the tables
 pub record Bench : Type 0 where
   pub pool : ℕ
@@ -72,15 +93,15 @@ tables_in file layout =
     (column_at file layout.entries 1 0)
     (take layout.code.count (drop layout.code.start file))
 
-unfoldable pub bench_of : List ℕ → Bench
-bench_of file = record { pool = (layout_of file).pool.count; tables = tables_in file (layout_of file) }
+unfoldable pub bench_of : List ℕ → Layout → Bench
+bench_of file layout = record { pool = layout.pool.count; tables = tables_in file layout }
 
-unfoldable pub stated_by : List ℕ → Reading → Stated
-stated_by file (At end) = states (bench_of file)
-stated_by file (Stopped number place) = refuses number place
+unfoldable pub stated_by : List ℕ → Result Layout Refused → Stated
+stated_by file (Ok layout) = states (bench_of file layout)
+stated_by file (Err r) = refuses r.number r.place
 
 unfoldable pub stated : List ℕ → Stated
-stated file = stated_by file (layout_of file).end
+stated file = stated_by file (layout_of file)
 
 -- a column shorter than its table's limit: "30: scratch or answer buffer short"
 unfoldable pub below : ℕ → ℕ → ℕ → ℕ → Bool
@@ -127,9 +148,9 @@ sizes_of p =
       code = length p.tables.code;
     }
 
-unfoldable pub outcome_of : Stated → Outcome
-outcome_of (states p) = Read (sizes_of p)
-outcome_of (refuses number place) = Refused number place
+unfoldable pub outcome_of : Stated → Result Sizes Refused
+outcome_of (states p) = Ok (sizes_of p)
+outcome_of (refuses number place) = Err (refused number place)
 
 -- every column with its table's column over its front
 unfoldable pub laid_over : Columns → Columns → Columns
@@ -164,40 +185,3 @@ sizes_in layout =
       entries = layout.entries.count;
       code = layout.code.count;
     }
-
--- the columns from the numbers of the four tables
-unfoldable pub tables_from : List ℕ → List ℕ → List ℕ → List ℕ → List ℕ → Layout → Columns
-tables_from rows functions descriptors entries file layout =
-    columns
-    (column_of 3 0 layout.rows.count rows)
-    (column_of 3 1 layout.rows.count rows)
-    (column_of 3 2 layout.rows.count rows)
-    (column_of 5 0 layout.functions.count functions)
-    (column_of 5 1 layout.functions.count functions)
-    (column_of 5 2 layout.functions.count functions)
-    (column_of 5 3 layout.functions.count functions)
-    (column_of 5 4 layout.functions.count functions)
-    (column_of 2 0 layout.descriptors.count descriptors)
-    (column_of 2 1 layout.descriptors.count descriptors)
-    (column_of 1 0 layout.entries.count entries)
-    (take layout.code.count (drop layout.code.start file))
-
--- lent columns with a cell for each row, and a file that holds the code's bytes
-pub record Ready (file : List ℕ) (layout : Layout) (lent : Columns) : Type 0 where
-  pub list_ids_room : layout.rows.count ≤ length lent.list_ids
-  pub list_counts_room : layout.rows.count ≤ length lent.list_counts
-  pub list_flags_room : layout.rows.count ≤ length lent.list_flags
-  pub function_ids_room : layout.functions.count ≤ length lent.function_ids
-  pub parameters_room : layout.functions.count ≤ length lent.parameters
-  pub maxima_room : layout.functions.count ≤ length lent.maxima
-  pub offsets_room : layout.functions.count ≤ length lent.offsets
-  pub lengths_room : layout.functions.count ≤ length lent.lengths
-  pub type_ids_room : layout.descriptors.count ≤ length lent.type_ids
-  pub descriptor_functions_room : layout.descriptors.count ≤ length lent.descriptor_functions
-  pub entries_room : layout.entries.count ≤ length lent.entries
-  pub code_room : layout.code.count ≤ length lent.code
-  pub code_there : layout.code.start + layout.code.count ≤ length file
-  pub rows_low : layout.rows.count ≤ 6144
-  pub functions_low : layout.functions.count ≤ 128
-  pub descriptors_low : layout.descriptors.count ≤ 256
-  pub entries_low : layout.entries.count ≤ 32

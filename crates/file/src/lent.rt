@@ -4,41 +4,27 @@ ghost use Rattle.file.specs.Stated.{below, short_room};
 
 use crate::Room;
 
+#[tactic(auto, using(std::proofs::lemmas::Bool::Decides::nat_tests), unfolding(crate::specs::Stated::below))]
 fn below(limit: usize, a: usize, b: usize, c: usize) -> bool
     ensures { result ≡ below limit a b c }
 {
-    if a < limit {
-        return true;
-    }
-    if b < limit {
-        return true;
-    }
-    c < limit
+    a < limit || b < limit || c < limit
 }
 
 // A column has fewer cells than its table's limit.
-pub fn short(room: Room) -> bool
-    ensures { result ≡ short_room room }
+#[tactic(auto, using(std::proofs::lemmas::Bool::Decides::nat_tests), unfolding(crate::specs::Stated::short_room))]
+pub fn short(room: &Room) -> bool
+    ensures { result ≡ short_room room.now }
 {
-    if below(6144, room.list_ids, room.list_counts, room.list_flags) {
-        return true;
-    }
-    if below(128, room.function_ids, room.parameters, room.maxima) {
-        return true;
-    }
-    if below(128, room.offsets, room.lengths, room.lengths) {
-        return true;
-    }
-    if below(
-        256,
-        room.type_ids,
-        room.descriptor_functions,
-        room.descriptor_functions,
-    ) {
-        return true;
-    }
-    if room.entries < 32 {
-        return true;
-    }
-    room.code < 12288
+    below(6144, room.list_ids, room.list_counts, room.list_flags)
+        || below(128, room.function_ids, room.parameters, room.maxima)
+        || below(128, room.offsets, room.lengths, room.lengths)
+        || below(
+            256,
+            room.type_ids,
+            room.descriptor_functions,
+            room.descriptor_functions,
+        )
+        || room.entries < 32
+        || room.code < 12288
 }

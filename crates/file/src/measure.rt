@@ -1,182 +1,130 @@
 // The first pass: the numbers of each table of a bench file and where they stood, or the first refusal in reading order. They go into
 // cells of its own, so that a refused file leaves no trace in the caller's columns.
-ghost use Rattle.std.specs.Prelude.{◌≡◌, ◌-◌, ◌*◌, ◌<◌, ◌≤◌, length};
-ghost use Rattle.file.specs.Numbers.{run_of, numbers};
+ghost use Rattle.std.specs.Prelude.{◌≡◌, ◌-◌, ◌*◌, ◌≤◌, length, IfOk};
+ghost use Rattle.file.specs.Numbers.{number_in, run_of, numbers};
 ghost use Rattle.file.specs.Columns.{numbers_of_table, over};
-ghost use Rattle.file.specs.Tables.{after_run, halted, counted, table_of, begin, code_end, layout_of};
+ghost use Rattle.file.specs.Tables.{table_of, code_end, layout_of};
+ghost use Rattle.file.specs.Measured.{Measured};
 
-use crate::{Layout, Reading, Run, Table};
-use seven::Number;
+use crate::{Layout, Refused, Table};
+use seven::{Misread, Number};
 
-// Numbers in a row from a place on, each into a cell.
-fn read_numbers(cells: &mut [u16], file: &[u8], start: usize, count: usize) -> Run
-    requires { count ≤ length cells.old }
-    ensures { (result ≡ run_of count file.now start) × (cells.new ≡ over (numbers count file.now start) cells.old) }
-{
-    let mut at = start;
-    let mut i = 0;
-    while i < count {
-        match seven::read_number(file, at) {
-            Number::Value { n, next } => {
-                cells[i] = n;
-                at = next;
-                i += 1;
-            }
-            Number::Bad => {
-                return Run::Bad { place: at };
-            }
-            Number::Early => {
-                return Run::Early;
-            }
-        }
-    }
-    Run::Done { next: at }
+// The numbers of the four tables with rows, row by row, in the front of as many cells as 01 allows.
+#[derive(Drop)]
+pub struct Numbers {
+    pub rows: [u16; 18432],
+    pub functions: [u16; 640],
+    pub descriptors: [u16; 512],
+    pub entries: [u16; 32],
 }
 
-fn after_run(file: &[u8], run: Run) -> Reading
-    ensures { result ≡ after_run file.now run }
+// The number at a place, or the refusal.
+#[tactic(auto, unfolding(crate::specs::Numbers::number_in, crate::specs::Numbers::misread))]
+fn number_at(file: &[u8], at: usize) -> Result<Number, Refused>
+    ensures { result ≡ number_in file.now at }
 {
-    match run {
-        Run::Done { next } => Reading::At(next),
-        Run::Bad { place } => Reading::Stopped { number: 40, place },
-        Run::Early => Reading::Stopped {
+    seven::read_number(file, at).map_err(|misread| match misread {
+        Misread::Bad => Refused {
+            number: 40,
+            place: at,
+        },
+        Misread::Early => Refused {
             number: 41,
             place: file.len(),
         },
+    })
+}
+
+// Numbers in a row from a place on, each into a cell: the place after them.
+fn read_numbers(cells: &mut [u16], file: &[u8], start: usize) -> Result<usize, Refused>
+    ensures run { result ≡ run_of (length cells.old) file.now start }
+    ensures cells { IfOk result (λ _. cells.new ≡ numbers (length cells.old) file.now start) }
+{
+    let mut at = start;
+    for cell in cells.iter_mut() {
+        let number = number_at(file, at)?;
+        *cell = number.n;
+        at = number.next;
     }
-}
-
-fn wide(x: u16) -> usize
-    ensures { (result ≡ x) × (result < 65536) }
-{
-    x as usize
-}
-
-fn product(rows: u16, width: u16) -> usize
-    ensures { result ≡ rows * width }
-{
-    wide(rows) * wide(width)
-}
-
-fn halt(number: u32, place: usize) -> Table
-    ensures { result ≡ halted number place }
-{
-    Table {
-        count: 0,
-        start: 0,
-        after: Reading::Stopped { number, place },
-    }
+    Ok(at)
 }
 
 // A count at a place, and its rows.
-fn table_at(cells: &mut [u16], file: &[u8], at: usize, limit: u16, width: u16) -> Table
+#[tactic(auto, using(std::proofs::lemmas::Bool::Decides::nat_tests), unfolding(crate::specs::Tables::table_of, crate::specs::Tables::on_count, crate::specs::Columns::numbers_of_table, crate::specs::Columns::over))]
+fn table_at(
+    cells: &mut [u16],
+    file: &[u8],
+    at: usize,
+    limit: u16,
+    width: u16,
+) -> Result<Table, Refused>
     requires { limit * width ≤ length cells.old }
-    ensures { (result ≡ counted file.now at limit width) × (cells.new ≡ over (numbers_of_table file.now result width) cells.old) }
+    ensures table { result ≡ table_of file.now at limit width }
+    ensures cells { IfOk result (λ table. cells.new ≡ over (numbers_of_table file.now table width) cells.old) }
 {
-    match seven::read_number(file, at) {
-        Number::Value { n, next } => {
-            if limit < n {
-                return halt(31, 0);
-            }
-            let run = read_numbers(cells, file, next, product(n, width));
-            let after = after_run(file, run);
-            Table {
-                count: n,
-                start: next,
-                after,
-            }
-        }
-        Number::Bad => halt(40, at),
-        Number::Early => halt(41, file.len()),
+    let count = number_at(file, at)?;
+    if limit < count.n {
+        return Err(Refused {
+            number: 31,
+            place: 0,
+        });
     }
-}
-
-// One table, unless reading has stopped before it.
-fn table_after(cells: &mut [u16], file: &[u8], before: Reading, limit: u16, width: u16) -> Table
-    requires { limit * width ≤ length cells.old }
-    ensures { (result ≡ table_of file.now before limit width) × (cells.new ≡ over (numbers_of_table file.now result width) cells.old) }
-{
-    match before {
-        Reading::At(at) => table_at(cells, file, at, limit, width),
-        Reading::Stopped { number, place } => halt(number, place),
-    }
-}
-
-fn begins(file: &[u8]) -> Reading
-    ensures { result ≡ begin file.now }
-{
-    if 65536 < file.len() {
-        return Reading::Stopped {
-            number: 43,
-            place: 65536,
-        };
-    }
-    Reading::At(0)
-}
-
-fn bytes_left(file: &[u8], at: usize) -> usize
-    ensures { result ≡ length file.now - at }
-{
-    if at < file.len() { file.len() - at } else { 0 }
+    let size = usize::from(count.n) * usize::from(width);
+    let end = read_numbers(&mut cells[..size], file, count.next)?;
+    Ok(Table {
+        count: count.n,
+        start: count.next,
+        end,
+    })
 }
 
 // The code's bytes are all there, and none after them.
-fn ends(file: &[u8], count: u16, before: Reading) -> Reading
-    ensures { result ≡ code_end file.now count before }
+#[tactic(auto, using(std::proofs::lemmas::Bool::Decides::nat_tests), unfolding(crate::specs::Tables::code_end))]
+fn ends(file: &[u8], code: &Table) -> Result<usize, Refused>
+    ensures { result ≡ code_end file.now code.now }
 {
-    match before {
-        Reading::At(start) => {
-            let left = bytes_left(file, start);
-            let needed = wide(count);
-            if left < needed {
-                return Reading::Stopped {
-                    number: 41,
-                    place: file.len(),
-                };
-            }
-            if needed < left {
-                return Reading::Stopped {
-                    number: 42,
-                    place: start + needed,
-                };
-            }
-            Reading::At(start + needed)
-        }
-        Reading::Stopped { number, place } => Reading::Stopped { number, place },
+    let left = file.len().saturating_sub(code.end);
+    let needed = usize::from(code.count);
+    if left < needed {
+        return Err(Refused {
+            number: 41,
+            place: file.len(),
+        });
     }
+    if needed < left {
+        return Err(Refused {
+            number: 42,
+            place: code.end + needed,
+        });
+    }
+    Ok(code.end + needed)
 }
 
 // All numbers of the four tables, and where they stood.
-pub fn measure(
-    row_cells: &mut [u16; 18432],
-    function_cells: &mut [u16; 640],
-    descriptor_cells: &mut [u16; 512],
-    entry_cells: &mut [u16; 32],
-    file: &[u8],
-) -> Layout
-    ensures { (result ≡ layout_of file.now) × ((row_cells.new ≡ over (numbers_of_table file.now result.rows 3) row_cells.old) × ((function_cells.new ≡ over (numbers_of_table file.now result.functions 5) function_cells.old) × ((descriptor_cells.new ≡ over (numbers_of_table file.now result.descriptors 2) descriptor_cells.old) × (entry_cells.new ≡ over (numbers_of_table file.now result.entries 1) entry_cells.old)))) }
+#[tactic(auto, using(std::proofs::lemmas::Bool::Decides::nat_tests), unfolding(crate::specs::Tables::layout_of))]
+pub fn measure(numbers: &mut Numbers, file: &[u8]) -> Result<Layout, Refused>
+    ensures layout { result ≡ layout_of file.now }
+    ensures numbers { IfOk result (λ layout. Measured file.now layout numbers.old numbers.new) }
 {
-    let mut none = [0u16; 1];
-    let pool = table_after(&mut none, file, begins(file), 65535, 0);
-    let after_pool = pool.after;
-    let rows = table_after(row_cells, file, after_pool, 6144, 3);
-    let after_rows = rows.after;
-    let functions = table_after(function_cells, file, after_rows, 128, 5);
-    let after_functions = functions.after;
-    let descriptors = table_after(descriptor_cells, file, after_functions, 256, 2);
-    let after_descriptors = descriptors.after;
-    let entries = table_after(entry_cells, file, after_descriptors, 32, 1);
-    let after_entries = entries.after;
-    let code = table_after(&mut none, file, after_entries, 12288, 0);
-    let after_code = code.after;
-    let end = ends(file, code.count, after_code);
-    Layout {
+    if 65536 < file.len() {
+        return Err(Refused {
+            number: 43,
+            place: 65536,
+        });
+    }
+    let pool = table_at(&mut [], file, 0, 65535, 0)?;
+    let rows = table_at(&mut numbers.rows, file, pool.end, 6144, 3)?;
+    let functions = table_at(&mut numbers.functions, file, rows.end, 128, 5)?;
+    let descriptors = table_at(&mut numbers.descriptors, file, functions.end, 256, 2)?;
+    let entries = table_at(&mut numbers.entries, file, descriptors.end, 32, 1)?;
+    let code = table_at(&mut [], file, entries.end, 12288, 0)?;
+    ends(file, &code)?;
+    Ok(Layout {
         pool,
         rows,
         functions,
         descriptors,
         entries,
         code,
-        end,
-    }
+    })
 }

@@ -3,8 +3,7 @@
 use Rattle.std.specs.Prelude.{ℕ, ◌+◌, ◌-◌, ◌*◌, ◌/◌, ◌%◌, ◌<◌, ◌≤◌, ◌≡◌, refl, Bool, true, false, List, [], ◌∷◌, length, get_or, ltb}
 use Rattle.std.proofs.Common.{◌∙◌, arith, le-ltb, lt-ltb, le-leb, ne_eqb, ltb-true, ltb-false}
 use Rattle.std.proofs.lemmas.Bool.{lt-leb}
-use Rattle.seven.specs.declared.Number.TheVariants.{Value}
-use Rattle.seven.specs.Seven.{number_at, first, second, third}
+use Rattle.seven.specs.Seven.{value, number_at, first, second, third}
 use Rattle.seven.specs.Write.{form}
 
 pub by_test : {P : Type 0} (t : Bool) → (t ≡ true → P) → (t ≡ false → P) → P
@@ -12,12 +11,12 @@ by_test true f g = f refl
 by_test false f g = g refl
 
 -- a number of one byte, of two and of three, by the bytes that stand there
-pub one : (s : List ℕ) (at x : ℕ) → at < length s → get_or s at 0 ≡ x → x < 128 → number_at s at ≡ Value x (at + 1)
+pub one : (s : List ℕ) (at x : ℕ) → at < length s → get_or s at 0 ≡ x → x < 128 → number_at s at ≡ value x (at + 1)
 unfolding number_at first
 one s at x h p lo = simp (lt-leb _ _ h, p, lt-ltb _ _ lo)
 
 pub two : (s : List ℕ) (at x y : ℕ) → at + 1 < length s → get_or s at 0 ≡ x → get_or s (at + 1) 0 ≡ y →
-    128 ≤ x → 0 < y → y < 128 → number_at s at ≡ Value (x - 128 + y * 128) (at + 2)
+    128 ≤ x → 0 < y → y < 128 → number_at s at ≡ value (x - 128 + y * 128) (at + 2)
 unfolding number_at first second
 two s at x y h p q lo some mid =
     simp (
@@ -32,7 +31,7 @@ two s at x y h p q lo some mid =
 
 pub three : (s : List ℕ) (at x y z : ℕ) → at + 2 < length s →
     get_or s at 0 ≡ x → get_or s (at + 1) 0 ≡ y → get_or s (at + 2) 0 ≡ z → 128 ≤ x → 128 ≤ y → 0 < z → z ≤ 3 →
-    number_at s at ≡ Value (x - 128 + (y - 128) * 128 + z * 16384) (at + 3)
+    number_at s at ≡ value (x - 128 + (y - 128) * 128 + z * 16384) (at + 3)
 unfolding number_at first second third
 three s at x y z h p q r lo mid some hi =
     simp (

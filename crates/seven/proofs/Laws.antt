@@ -1,21 +1,20 @@
 -- What a crate above may use of the numbers: what is written reads back as the same number at the place after it; what was read
 -- writes back as the same bytes; each number has exactly one form.
 -- Assumes nothing.
-use Rattle.std.specs.Prelude.{ℕ, zero, suc, ◌+◌, ◌-◌, ◌*◌, ◌/◌, ◌%◌, ◌<◌, ◌≤◌, ◌≡◌, refl, false, List, [], ◌∷◌, ◌++◌, length, get_or, take, drop, ltb, leb, eqb}
+use Rattle.std.specs.Prelude.{ℕ, zero, suc, ◌+◌, ◌-◌, ◌*◌, ◌/◌, ◌%◌, ◌<◌, ◌≤◌, ◌≡◌, refl, false, List, [], ◌∷◌, ◌++◌, length, get_or, take, drop, ltb, leb, eqb, Option, Some, None, Result, Err}
 use Rattle.std.proofs.Common.{sym, ◌∙◌, ap, arith, add-one, length-append, take-append-drop, get_or-append-add, drop-cons, length-take-le, take_at, le-leb, leb-true, leb-false, ltb-true, ltb-false}
 use Rattle.std.proofs.Math.Seq.{get_or-append_seam}
 use Rattle.std.proofs.lemmas.Bool.{eqb-false}
 use Rattle.seven.specs.declared.Number.{Number}
-use Rattle.seven.specs.declared.Number.TheVariants.{Value, Bad, Early}
-use Rattle.seven.specs.declared.Put.{Put}
-use Rattle.seven.specs.declared.Put.TheVariants.{After, NoRoom}
-use Rattle.seven.specs.Seven.{number_at, first, second, third, Bytes}
+use Rattle.seven.specs.declared.Misread.{Misread}
+use Rattle.seven.specs.declared.Misread.TheVariants.{Bad, Early}
+use Rattle.seven.specs.Seven.{value, number_at, first, second, third, Bytes}
 use Rattle.seven.specs.Write.{form, laid, written}
 use Rattle.seven.proofs.Forms.{by_test, by_size, one, two, three, form_one, form_two, form_three, two_form, three_form}
 
 -- the form of a number, wherever it stands, reads as the number, at the place after it
 pub found : (before after : List ℕ) (n : ℕ) → n < 65536 →
-    number_at (before ++ (form n ++ after)) (length before) ≡ Value n (length before + length (form n))
+    number_at (before ++ (form n ++ after)) (length before) ≡ value n (length before + length (form n))
 found before after n top =
     by_size n
     (λ small. rw (form_one n small)
@@ -26,7 +25,7 @@ found before after n top =
     (get_or-append_seam before (n % 128 + 128) ((n / 128) ∷ after) 0)
     (get_or-append-add before ((n % 128 + 128) ∷ ((n / 128) ∷ after)) 1 0)
     (omega arith) (omega arith) (omega arith)
-    ∙ ap (λ (k : ℕ). Value k (length before + 2)) (omega arith)))
+    ∙ ap (λ (k : ℕ). value k (length before + 2)) (omega arith)))
     (λ big. rw (form_three n big)
     (three (before ++ ((n % 128 + 128) ∷ ((n / 128 % 128 + 128) ∷ ((n / 16384) ∷ after)))) (length before)
     (n % 128 + 128) (n / 128 % 128 + 128) (n / 16384)
@@ -35,7 +34,7 @@ found before after n top =
     (get_or-append-add before ((n % 128 + 128) ∷ ((n / 128 % 128 + 128) ∷ ((n / 16384) ∷ after))) 1 0)
     (get_or-append-add before ((n % 128 + 128) ∷ ((n / 128 % 128 + 128) ∷ ((n / 16384) ∷ after))) 2 0)
     (omega arith) (omega arith) (omega arith) (omega arith)
-    ∙ ap (λ (k : ℕ). Value k (length before + 3)) (omega arith)))
+    ∙ ap (λ (k : ℕ). value k (length before + 3)) (omega arith)))
 
 -- what a number that was read says of its bytes
 pub record Stands (file : List ℕ) (at n next : ℕ) : Type 0 where
@@ -48,17 +47,16 @@ pub record Stands (file : List ℕ) (at n next : ℕ) : Type 0 where
 uncons : (s : List ℕ) (at k : ℕ) → at < length s → at + 1 ≡ k → drop at s ≡ get_or s at 0 ∷ drop k s
 uncons s at k h e = drop-cons s at 0 h ∙ ap (λ (j : ℕ). get_or s at 0 ∷ drop j s) (sym (add-one at) ∙ e)
 
-no_early : {P : Type 0} {n next : ℕ} → ◌≡◌ {A = Number} Early (Value n next) → P
+no_early : {P : Type 0} {n next : ℕ} → ◌≡◌ {A = Result Number Misread} (Err Early) (value n next) → P
 no_early e = absurd (let z : ◌≡◌ {A = ℕ} 0 1 = cc in omega arith)
 
-no_bad : {P : Type 0} {n next : ℕ} → ◌≡◌ {A = Number} Bad (Value n next) → P
+no_bad : {P : Type 0} {n next : ℕ} → ◌≡◌ {A = Result Number Misread} (Err Bad) (value n next) → P
 no_bad e = absurd (let z : ◌≡◌ {A = ℕ} 0 1 = cc in omega arith)
 
-same_value : {s : List ℕ} {at m k n next : ℕ} → ◌≡◌ {A = Number} (Value m k) (Value n next) → Stands s at m k → Stands s at n next
+same_value : {s : List ℕ} {at m k n next : ℕ} → ◌≡◌ {A = Result Number Misread} (value m k) (value n next) → Stands s at m k → Stands s at n next
 same_value {s} {at} {m} {k} {n} {next} e h =
-    let x : m ≡ n = cc in
-    let y : k ≡ next = cc in
-    rw (← x, ← y) h
+    let r : ◌≡◌ {A = Number} (record { n = m; next = k }) (record { n = n; next = next }) = cc in
+    rw (← ap (λ (x : Number). x.n) r, ← ap (λ (x : Number). x.next) r) h
 
 -- one byte, two and three that were read are the form of their number
 module _ (s : List ℕ) (at : ℕ) where
@@ -107,7 +105,7 @@ positive : (x : ℕ) → eqb x 0 ≡ false → 0 < x
 positive zero e = absurd (eqb-false 0 0 e refl)
 positive (suc x) e = omega arith
 
-pub stands : (s : List ℕ) (at n next : ℕ) → Bytes s → number_at s at ≡ Value n next → Stands s at n next
+pub stands : (s : List ℕ) (at n next : ℕ) → Bytes s → number_at s at ≡ value n next → Stands s at n next
 unfolding Bytes number_at first second third
 stands s at n next all h =
     let low : ℕ = get_or s at 0 in
@@ -133,7 +131,7 @@ stands s at n next all h =
     (λ k. no_bad (simp (a, b, d, f, i, j, k) at h))))))))
 
 -- what was read writes back as the same bytes: the buffer stays as it was
-pub writes_back : (s : List ℕ) (at n next : ℕ) → Bytes s → number_at s at ≡ Value n next → written s at n ≡ (After next, s)
+pub writes_back : (s : List ℕ) (at n next : ℕ) → Bytes s → number_at s at ≡ value n next → written s at n ≡ (Some next, s)
 unfolding written laid
 writes_back s at n next all h =
     let t : Stands s at n next = stands s at n next all h in
@@ -141,11 +139,11 @@ writes_back s at n next all h =
     let same : take at s ++ (form n ++ drop (at + length (form n)) s) ≡ s =
     ap (λ (k : ℕ). take at s ++ (form n ++ drop k s)) (sym t.after)
     ∙ (ap (λ (l : List ℕ). take at s ++ l) (sym t.bytes) ∙ take-append-drop at s) in
-    rw (le-leb _ _ fits) (ap (λ (l : List ℕ). (After (at + length (form n)), l)) same ∙ ap (λ (k : ℕ). (After k, s)) (sym t.after))
+    rw (le-leb _ _ fits) (ap (λ (l : List ℕ). (Some (at + length (form n)), l)) same ∙ ap (λ (k : ℕ). (Some k, s)) (sym t.after))
 
 -- what was written reads back as the same number, at the place after it
-pub reads_back : (out after : List ℕ) (at n next : ℕ) → n < 65536 → written out at n ≡ (After next, after) →
-    number_at after at ≡ Value n next
+pub reads_back : (out after : List ℕ) (at n next : ℕ) → n < 65536 → written out at n ≡ (Some next, after) →
+    number_at after at ≡ value n next
 unfolding written laid
 reads_back out after at n next top h =
     by_test (leb (at + length (form n)) (length out))
@@ -153,14 +151,14 @@ reads_back out after at n next top h =
     let front : length (take at out) ≡ at =
     length-take-le at out (omega (arith, leb-true (at + length (form n)) (length out) a)) in
     let rest : List ℕ = drop (at + length (form n)) out in
-    let both : ◌≡◌ {A = Put × List ℕ} (After (at + length (form n)), take at out ++ (form n ++ rest)) (After next, after) = simp a at h in
-    let there : After (at + length (form n)) ≡ After next = ap (λ (p : Put × List ℕ). p.0) both in
+    let both : ◌≡◌ {A = Option ℕ × List ℕ} (Some (at + length (form n)), take at out ++ (form n ++ rest)) (Some next, after) = simp a at h in
+    let there : Some (at + length (form n)) ≡ Some next = ap (λ (p : Option ℕ × List ℕ). p.0) both in
     let next-is : at + length (form n) ≡ next = cc in
-    rw (← ap (λ (p : Put × List ℕ). p.1) both, ← next-is)
+    rw (← ap (λ (p : Option ℕ × List ℕ). p.1) both, ← next-is)
     (rw front at (found (take at out) rest n top)))
     (λ a.
-    let both : ◌≡◌ {A = Put × List ℕ} (NoRoom, out) (After next, after) = simp a at h in
-    let there : NoRoom ≡ After next = ap (λ (p : Put × List ℕ). p.0) both in
+    let both : ◌≡◌ {A = Option ℕ × List ℕ} (None, out) (Some next, after) = simp a at h in
+    let there : None ≡ Some next = ap (λ (p : Option ℕ × List ℕ). p.0) both in
     absurd (let z : ◌≡◌ {A = ℕ} 0 1 = cc in omega arith))
 
 -- each number has exactly one form: where two files have the same number, they have the same bytes
@@ -168,7 +166,7 @@ form_of : {s : List ℕ} {at n next : ℕ} → Stands s at n next → take (next
 form_of {s} {at} {n} {next} x =
     ap (λ (l : List ℕ). take (next - at) l) x.bytes ∙ take_at (form n) (drop next s) (next - at) (omega (arith, x.after))
 
-pub one_form : (s t : List ℕ) (at from n next end : ℕ) → Bytes s → Bytes t → number_at s at ≡ Value n next → number_at t from ≡ Value n end →
+pub one_form : (s t : List ℕ) (at from n next end : ℕ) → Bytes s → Bytes t → number_at s at ≡ value n next → number_at t from ≡ value n end →
     (next - at ≡ end - from) × (take (next - at) (drop at s) ≡ take (end - from) (drop from t))
 one_form s t at from n next end all all' h h' =
     let x : Stands s at n next = stands s at n next all h in

@@ -1,47 +1,34 @@
--- `file::read_file` meets its contract: by its two tests it is one of the three cases of `read_into` (ReadLaws.antt). Assumes nothing.
-use native.Mathlib.Omega.{arith}
-use mathlib.Core.Path.{◌≡◌, sym, ◌∙◌, ap}
+-- `file::read_file` meets its contract: it is one of the three cases of `read_into` (ReadLaws.antt). Assumes nothing.
+use Rattle.std.proofs.Common.{sym, ◌∙◌, ap, arith}
+use Rattle.std.proofs.lemmas.Result.{err_from_is_err_and}
 use Rattle.seven.specs.Seven.{Bytes}
-use Rattle.file.specs.declared.Layout.{Layout}
-use Rattle.file.specs.Tables.{layout_of}
-use Rattle.file.specs.Stated.{Columns, columns}
-use Rattle.file.proofs.ReadLaws.{was_short, was_stopped, refused, ready, finished}
+use Rattle.file.specs.Stated.{columns_in, short_room}
+use Rattle.file.proofs.ReadLaws.{was_short, was_refused, refused, ready, finished}
 use Rattle.file.proofs.read_file.Goals as goal
 
-pub returns-then-short : goal.returns-then-short
-returns-then-short c = let a = c.args in
-    let lent : Columns = columns a.list_ids.now a.list_counts.now a.list_flags.now a.function_ids.now a.parameters.now a.maxima.now a.offsets.now a.lengths.now a.type_ids.now a.descriptor_functions.now a.entries.now a.code.now in
-    refused lent a.file.now (was_short lent a.file.now (sym c.short.ensures ∙ c.if-short.true))
+pub returns-then-short-clause-outcome : goal.returns-then-short-clause-outcome
+returns-then-short-clause-outcome c = (refused (columns_in c.args.columns.now) c.args.file.now (was_short (columns_in c.args.columns.now) c.args.file.now (ap short_room (sym c.room.ensures) ∙ (sym c.short.ensures ∙ c.if-short.true)))).0
+
+pub returns-then-short-clause-left : goal.returns-then-short-clause-left
+returns-then-short-clause-left c = (refused (columns_in c.args.columns.now) c.args.file.now (was_short (columns_in c.args.columns.now) c.args.file.now (ap short_room (sym c.room.ensures) ∙ (sym c.short.ensures ∙ c.if-short.true)))).1
+
+pub returns-in_err-layout-clause-outcome : goal.returns-in_err-layout-clause-outcome
+returns-in_err-layout-clause-outcome c = let p = err_from_is_err_and c.from_residual.result c.from_residual.ensures.1 in
+    rw (p.1, p.2) (refused (columns_in c.args.columns.now) c.args.file.now (was_refused (columns_in c.args.columns.now) c.args.file.now c.in_err-layout.field-0.0 (ap short_room (sym c.room.ensures) ∙ (sym c.short.ensures ∙ c.if-short.false)) (sym c.measure.ensures.layout ∙ c.in_err-layout.was))).0
+
+pub returns-in_err-layout-clause-left : goal.returns-in_err-layout-clause-left
+returns-in_err-layout-clause-left c = (refused (columns_in c.args.columns.now) c.args.file.now (was_refused (columns_in c.args.columns.now) c.args.file.now c.in_err-layout.field-0.0 (ap short_room (sym c.room.ensures) ∙ (sym c.short.ensures ∙ c.if-short.false)) (sym c.measure.ensures.layout ∙ c.in_err-layout.was))).1
 
 pub fill_columns-requires : goal.fill_columns-requires
 unfolding Bytes
-fill_columns-requires c = let a = c.args in
-    let lent : Columns = columns a.list_ids.now a.list_counts.now a.list_flags.now a.function_ids.now a.parameters.now a.maxima.now a.offsets.now a.lengths.now a.type_ids.now a.descriptor_functions.now a.entries.now a.code.now in
-    let l : c.measure-layout.result ≡ layout_of a.file.now = c.measure-layout.ensures.0 in
-    rw l
-    (ready lent a.file.now _ (λ i. omega (arith, c.type_inv.file i)) (sym c.short.ensures ∙ c.if-short.false)
-    (sym (ap (λ (x : Layout). x.end) l) ∙ c.in-At.is))
+fill_columns-requires c = ready (columns_in c.args.columns.now) c.args.file.now c.in_ok-layout.layout (λ i. omega (arith, c.type_inv.file i)) (ap short_room (sym c.room.ensures) ∙ (sym c.short.ensures ∙ c.if-short.false)) (sym c.measure.ensures.layout ∙ c.in_ok-layout.was)
 
-pub returns-in-Stopped : goal.returns-in-Stopped
-returns-in-Stopped c = let a = c.args in
-    let lent : Columns = columns a.list_ids.now a.list_counts.now a.list_flags.now a.function_ids.now a.parameters.now a.maxima.now a.offsets.now a.lengths.now a.type_ids.now a.descriptor_functions.now a.entries.now a.code.now in
-    let l : c.measure-layout.result ≡ layout_of a.file.now = c.measure-layout.ensures.0 in
-    refused lent a.file.now
-    (was_stopped lent a.file.now (sym c.short.ensures ∙ c.if-short.false)
-    (sym (ap (λ (x : Layout). x.end) l) ∙ c.in-Stopped.is))
-
-pub returns-in-At : goal.returns-in-At
+pub returns-clause-outcome : goal.returns-clause-outcome
 unfolding Bytes
-returns-in-At c = let a = c.args in
-    let lent : Columns = columns a.list_ids.now a.list_counts.now a.list_flags.now a.function_ids.now a.parameters.now a.maxima.now a.offsets.now a.lengths.now a.type_ids.now a.descriptor_functions.now a.entries.now a.code.now in
-    let m = c.measure-layout.ensures in
-    let l : c.measure-layout.result ≡ layout_of a.file.now = m.0 in
-    finished lent _ _ _ _ _ _ _ _ _ a.file.now _ c.sizes_of.result (λ i. omega (arith, c.type_inv.file i))
-    (sym c.short.ensures ∙ c.if-short.false)
-    (sym (ap (λ (x : Layout). x.end) l) ∙ c.in-At.is)
-    (rw l at m.1.0)
-    (rw l at m.1.1.0)
-    (rw l at m.1.1.1.0)
-    (rw l at m.1.1.1.1)
-    (rw l at c.fill_columns.ensures)
-    (rw l at c.sizes_of.ensures)
+returns-clause-outcome c = (finished (columns_in c.args.columns.now) (columns_in c.fill_columns.new.columns) c.args.file.now c.in_ok-layout.layout _ _ c.sizes_of.result (λ i. omega (arith, c.type_inv.file i))
+    (ap short_room (sym c.room.ensures) ∙ (sym c.short.ensures ∙ c.if-short.false)) (sym c.measure.ensures.layout ∙ c.in_ok-layout.was) c.in_ok-layout.ensures.numbers c.fill_columns.ensures.filled c.sizes_of.ensures).0
+
+pub returns-clause-left : goal.returns-clause-left
+unfolding Bytes
+returns-clause-left c = (finished (columns_in c.args.columns.now) (columns_in c.fill_columns.new.columns) c.args.file.now c.in_ok-layout.layout _ _ c.sizes_of.result (λ i. omega (arith, c.type_inv.file i))
+    (ap short_room (sym c.room.ensures) ∙ (sym c.short.ensures ∙ c.if-short.false)) (sym c.measure.ensures.layout ∙ c.in_ok-layout.was) c.in_ok-layout.ensures.numbers c.fill_columns.ensures.filled c.sizes_of.ensures).1

@@ -1,53 +1,38 @@
--- `file::measure::read_numbers` meets its contract: at each turn the run and the numbers that are left give those of the whole
--- (RunLaws.antt), and what is laid from the cell on gives what the whole lays (LaidLaws.antt). The measure is what is left to read. Assumes nothing.
-use mathlib.Core.Path.{refl, sym, ◌∙◌}
-use native.Mathlib.Nat.{sub-zero}
-use lib.ListN.{length-set}
-use borrow.Author.Rules.{rules}
-use native.Mathlib.Omega.{arith}
-use Prim.Native.Nat.{◌-◌}
-use Rattle.file.specs.Numbers.{numbers}
+-- `file::measure::read_numbers` meets its contract: each turn reads one number more (RunLaws.antt), and lays it behind those before it
+-- (LaidLaws.antt). Assumes nothing.
+use Rattle.std.proofs.Common.{ℕ, ◌≡◌, List, length, sym, ◌∙◌, ap, refl, arith}
+use Rattle.std.proofs.lemmas.Result.{err_from_is_err_and}
 use Rattle.file.specs.Columns.{over}
-use Rattle.file.proofs.RunLaws.{goes_on, bad_there, early_there, none_left}
-use Rattle.file.proofs.LaidLaws.{laid_start, laid_turn, laid_done}
+use Rattle.file.specs.Numbers.{run_of, numbers}
+use Rattle.file.proofs.RunLaws.{run_next, numbers_next, run_ends}
+use Rattle.file.proofs.LaidLaws.{over_next, over_all}
+use Rattle.file.proofs.TableLaws.{all_there}
 use Rattle.file.proofs.measure.read_numbers.Goals as goal
 
-pub loop-i-init : goal.loop-i-init
-loop-i-init c = record {
-  within = search rules;
-  len = refl;
-  ends = rw sub-zero;
-  lays = rw sub-zero (laid_start c.args.cells.now (numbers c.args.count c.args.file.now c.args.start));
-}
+pub loop-cell-init : goal.loop-cell-init
+unfolding run_of numbers over
+loop-cell-init c = (refl, refl)
 
-pub loop-i-preserved : goal.loop-i-preserved
-loop-i-preserved c = let l = c.loop-i in
-    let a = c.args in
-    let s = a.file.now in
-    let there = goes_on s a.count l.at l.i c.loop-i-test.true (sym c.read_number.ensures ∙ c.in-Value.is) in
-    record {
-      within = search rules;
-      len = length-set l.cells l.i _ ∙ l.invariant.len;
-      ends = sym there.0 ∙ l.invariant.ends;
-      lays =
-          laid_turn l.cells _ (over (numbers a.count s a.start) a.cells.now) l.i _ (numbers (a.count - l.i) s l.at)
-          (omega (arith, c.loop-i-test.true, c.requires, l.invariant.len)) there.1 l.invariant.lays;
-    }
+pub returns-in_err-number-clause-run : goal.returns-in_err-number-clause-run
+returns-in_err-number-clause-run c = let l = c.loop-cell in
+    let p = err_from_is_err_and c.from_residual.result c.from_residual.ensures.1 in
+    rw (p.1, p.2) (sym (run_ends c.args.file.now l.cell-index (length c.args.cells.now) l.at c.args.start c.in_err-number.field-0.0 (omega arith) l.invariant.0 (sym c.number_at.ensures ∙ c.in_err-number.was)))
 
-pub returns-in-Bad : goal.returns-in-Bad
-returns-in-Bad c = let l = c.loop-i in
-    let a = c.args in
-    let there = bad_there a.file.now a.count l.at l.i c.loop-i-test.true (sym c.read_number.ensures ∙ c.in-Bad.is) in
-    (sym there.0 ∙ l.invariant.ends, laid_done l.cells _ l.i (numbers (a.count - l.i) a.file.now l.at) there.1 l.invariant.lays)
+pub loop-cell-preserved : goal.loop-cell-preserved
+loop-cell-preserved c = let l = c.loop-cell in
+    let s = c.args.file.now in
+    let there = sym c.number_at.ensures ∙ c.in_ok-number.was in (
+      run_next s l.cell-index l.at c.args.start c.in_ok-number.number l.invariant.0 there,
+      rw l.invariant.1
+          (over_next (numbers l.cell-index s c.args.start) c.args.cells.now l.cell-index c.in_ok-number.number.n
+          (all_there l.cell-index s c.args.start l.at l.invariant.0) (omega arith)
+          ∙ ap (λ (ns : List ℕ). over ns c.args.cells.now) (sym (numbers_next s l.cell-index l.at c.args.start c.in_ok-number.number l.invariant.0 there))),
+    )
 
-pub returns-in-Early : goal.returns-in-Early
-returns-in-Early c = let l = c.loop-i in
-    let a = c.args in
-    let there = early_there a.file.now a.count l.at l.i c.loop-i-test.true (sym c.read_number.ensures ∙ c.in-Early.is) in
-    (sym there.0 ∙ l.invariant.ends, laid_done l.cells _ l.i (numbers (a.count - l.i) a.file.now l.at) there.1 l.invariant.lays)
-
-pub returns : goal.returns
-returns c = let l = c.loop-i in
-    let a = c.args in
-    let there = none_left a.file.now a.count l.at l.i c.loop-i-test.false in
-    (sym there.0 ∙ l.invariant.ends, laid_done l.cells _ l.i (numbers (a.count - l.i) a.file.now l.at) there.1 l.invariant.lays)
+pub returns-clause-cells : goal.returns-clause-cells
+returns-clause-cells c = let l = c.loop-cell in
+    let n : l.cell-index ≡ length c.args.cells.now = omega arith in
+    l.invariant.1
+    ∙ (ap (λ (k : ℕ). over (numbers k c.args.file.now c.args.start) c.args.cells.now) n
+    ∙ over_all (numbers (length c.args.cells.now) c.args.file.now c.args.start) c.args.cells.now
+    (all_there (length c.args.cells.now) c.args.file.now c.args.start l.at (rw n at l.invariant.0)))

@@ -1,0 +1,18 @@
+-- `file::fill::into_rows` meets its contract: each turn fills one cell more of each column (LaidLaws.antt). Assumes nothing.
+use Rattle.std.proofs.Common.{ℕ, ◌*◌, refl, sym, ap, arith, add-zero, get_or}
+use Rattle.file.proofs.LaidLaws.{filled_none, filled_next}
+use Rattle.file.proofs.fill.into_rows.Goals as goal
+
+pub loop-i-init : goal.loop-i-init
+loop-i-init c = (
+  filled_none c.args.numbers.now c.args.ids.now 3 0,
+  filled_none c.args.numbers.now c.args.counts.now 3 1,
+  filled_none c.args.numbers.now c.args.flags.now 3 2,
+)
+
+pub loop-i-preserved : goal.loop-i-preserved
+loop-i-preserved c = (
+  filled_next c.args.numbers.now c.args.ids.now c.loop-i.ids 3 0 c.loop-i.i _ (omega arith) (ap (λ (n : ℕ). get_or c.args.numbers.now n 0) (sym (add-zero (c.loop-i.i * 3)))) c.loop-i.invariant.0,
+  filled_next c.args.numbers.now c.args.counts.now c.loop-i.counts 3 1 c.loop-i.i _ (omega arith) refl c.loop-i.invariant.1,
+  filled_next c.args.numbers.now c.args.flags.now c.loop-i.flags 3 2 c.loop-i.i _ (omega arith) refl c.loop-i.invariant.2,
+)
