@@ -5,13 +5,13 @@ ghost use Rattle.std.specs.Prelude.{◌≡◌, ◌*◌, ◌≤◌, length};
 ghost use Rattle.file.specs.Columns.{over};
 ghost use Rattle.coppernudge.specs.Entry.{twelve_of, bytes_of, entry_of};
 
-use answers::Fields;
-use desk::Answer;
+use desk::Checked;
 
 // The fields of both answers in the order of the buffer.
-fn twelve(stack: Fields, pool: Fields) -> [u32; 12]
-    ensures { result ≡ twelve_of stack pool }
+fn twelve(checked: &Checked) -> [u32; 12]
+    ensures { result ≡ twelve_of checked.now.stack checked.now.pool }
 {
+    let Checked { stack, pool } = *checked;
     [
         stack.number,
         stack.function,
@@ -34,15 +34,12 @@ fn put_words(out: &mut [u8], words: &[u32])
     ensures { out.new ≡ over (bytes_of words.now) out.old }
 {
     let mut at = 0;
-    let mut i = 0;
-    while i < words.len() {
-        let word = words[i];
+    for &word in words {
         out[at] = (word % 256) as u8;
         out[at + 1] = (word / 256 % 256) as u8;
         out[at + 2] = (word / 65536 % 256) as u8;
         out[at + 3] = (word / 16777216 % 256) as u8;
         at += 4;
-        i += 1;
     }
 }
 
@@ -56,11 +53,10 @@ pub extern "C" fn coppernudge_check(file: &[u8], answer: &mut [u8]) -> u32
         return 30;
     }
     match desk::check_file(file) {
-        Answer::Refused { number, place: _ } => number,
-        Answer::Checked { stack, pool } => {
-            let words = twelve(stack, pool);
-            put_words(answer, &words);
+        Ok(checked) => {
+            put_words(answer, &twelve(&checked));
             0
         }
+        Err(refused) => refused.number,
     }
 }
