@@ -1,6 +1,7 @@
 -- The theorem is not empty: a run of a program that both checks accept opens three frames, holds the whole pool and comes to its end. Each step by
 -- computation from the machine's definition; the theorem at the run's fullest configuration, whose bounds are met.
 -- Assumes nothing.
+use Rattle.std.specs.Prelude.{Ok}
 use Prim.Native.Nat.{ℕ}
 use native.Mathlib.Omega.{arith}
 use mathlib.Core.Path.{◌≡◌, refl}
@@ -15,7 +16,6 @@ use Rattle.flow.specs.Walk.{walk_by, marks_of}
 use Rattle.codes.specs.First.{first_of}
 use Rattle.codes.specs.Lookup.{place_of, entry_of}
 use Rattle.program.specs.Program.{PoolProgram, body_of}
-use Rattle.rules.specs.declared.Known.{Known}
 use Rattle.effects.specs.Effects.{known_of}
 use Rattle.callees.specs.Callees.{temps_by, opens_by}
 use Rattle.machine.specs.Machine.{Frame, frame, opened, decoded_at, operands_in, Acts, Step, goes, returns, Steps, begins, then, Run, live}
@@ -27,7 +27,7 @@ use Rattle.machine.proofs.Theorem.{runs_safe}
 
 -- an instruction, by what decodes and what is known
 abbrev pub acts : {q : PoolProgram} {fr : Frame} (opcode size : ℕ) (e : Effect) → decoded_at q fr ≡ Instruction opcode size
-    → known_of move_of q.program opcode (operands_in q fr size) ≡ Known.Moves e → Acts q fr
+    → known_of move_of q.program opcode (operands_in q fr size) ≡ Ok e → Acts q fr
 acts opcode size e d k = record { opcode = opcode; size = size; effect = e; decodes = d; known = k }
 
 borrow_1 : Step chain (frame 0 0 0 0 ∷ []) (frame 0 5 1 1 ∷ [])

@@ -2,6 +2,7 @@
 -- both depths are within the declared maximum, an exit is at its depth, there is a way on, and each way on is a successor of the rules with the depth
 -- that is left. By what it means that no rule is broken (rules' Held.antt) and the rules' laws for each case.
 -- Assumes nothing.
+use Rattle.std.specs.Prelude.{Ok}
 use Prim.Native.Nat.{ℕ, ◌+◌, ◌-◌, ◌≤◌, ◌<◌}
 use native.Mathlib.Omega.{arith}
 use mathlib.Core.Path.{◌≡◌, refl, sym, subst, ◌∙◌}
@@ -15,9 +16,7 @@ use Rattle.tables.specs.declared.Effect.{Effect}
 use Rattle.flow.specs.declared.Flow.{Flow}
 use Rattle.flow.specs.declared.Flow.TheVariants.{Next, Jump, Branch, Return}
 use Rattle.flow.specs.Decode.{operands_at, flow_of}
-use Rattle.rules.specs.declared.Known.{Known}
-use Rattle.rules.specs.declared.Look.{Look}
-use Rattle.rules.specs.Look.{Effects, larger, flowing, look_of}
+use Rattle.rules.specs.Look.{Effects, larger, flowing, look_of, Look}
 use Rattle.rules.specs.Assigned.{Holds, Names}
 use Rattle.rules.proofs.Cases.{flowing_next, jump_legal, branch_legal, look_flow}
 use Rattle.rules.proofs.Held.{look_held, end_held, return_held, jump_held, branch_held}
@@ -51,7 +50,7 @@ pub exits_at : (marks : List ℕ) (end offset next op out : ℕ) (flow : Flow) �
 exits_at marks end offset next op out flow e h (inl z) = inl (z, return_held marks end offset next op out (rw e at h) ∙ simp (eq-eqb op 0x88 z))
 exits_at marks end offset next op out flow e h (inr z) = inr (z, return_held marks end offset next op out (rw e at h) ∙ simp (ne_eqb op 0x88 (λ w. omega arith)))
 
-moves_one : (e f : Effect) → Known.Moves e ≡ Known.Moves f → e ≡ f
+moves_one : (e f : Effect) → ◌≡◌ {A = Known} (Ok e) (Ok f) → e ≡ f
 moves_one e f z = cc
 
 module _ (known : Effects) (marks body : List ℕ) (maximum offset depth op size : ℕ) where
@@ -71,17 +70,17 @@ module _ (known : Effects) (marks body : List ℕ) (maximum offset depth op size
 
   module _ (inside : offset < length body) (is_op : op ≡ get_or body offset 0) (is_size : size ≡ get_or marks offset 0) where
     -- its effect is known
-    pub acts_known : Holds looked → (e : Effect) × (known op operands ≡ Known.Moves e)
+    pub acts_known : Holds looked → (e : Effect) × (known op operands ≡ Ok e)
     acts_known h =
         let d = look_held known marks body maximum offset depth inside h in
         (d.effect, rw (← is_op, ← is_size) at d.is_known)
 
-    pub obeys : (e : Effect) → known op operands ≡ Known.Moves e → Holds looked → Obeys e
+    pub obeys : (e : Effect) → known op operands ≡ Ok e → Holds looked → Obeys e
     obeys e is h =
         let d = look_held known marks body maximum offset depth inside h in
         by d.effect (rw (← is_op, ← is_size) at d.is_known) d.enough d.before d.after
       where
-        by : (f : Effect) → known op operands ≡ Known.Moves f → f.takes ≤ depth → depth ≤ maximum → depth - f.takes + f.leaves ≤ maximum → Obeys e
+        by : (f : Effect) → known op operands ≡ Ok f → f.takes ≤ depth → depth ≤ maximum → depth - f.takes + f.leaves ≤ maximum → Obeys e
         by f k a b c =
             let z : f ≡ e = moves_one f e (sym k ∙ is) in
             let a' : e.takes ≤ depth = rw z at a in

@@ -1,6 +1,9 @@
 -- Why rejected programs are rejected: for one of each of 5, 6, 8, 9, 20 and 21 a run to a configuration that is not safe, with the clause that it
 -- breaks. Each step by computation from the machine's definition, which tests nothing; the answers are StackAnswers.antt's and PoolAnswers.antt's.
 -- Assumes nothing.
+use Rattle.std.specs.Prelude.{Err}
+use Rattle.pool.specs.declared.Fault as of-pool
+use Rattle.stack.specs.declared.Fault as of-stack
 use Prim.Native.Nat.{ℕ, ◌<◌}
 use native.Mathlib.Omega.{arith}
 use mathlib.Core.Path.{◌≡◌, refl}
@@ -17,9 +20,7 @@ use Rattle.codes.specs.Lookup.{place_of, entry_of}
 use Rattle.program.specs.Program.{PoolProgram, body_of}
 use Rattle.rules.specs.declared.Violation.{Violation}
 use Rattle.effects.specs.Effects.{known_of}
-use Rattle.stack.specs.declared.Verdict as of-stack
 use Rattle.callees.specs.Callees.{temps_by, opens_by}
-use Rattle.pool.specs.declared.Verdict as of-pool
 use Rattle.machine.specs.Machine.{Frame, frame, opened, decoded_at, Acts, depth_after, flow_at, Step, goes, begins, then, Run, live}
 use Rattle.machine.specs.Safe.{top, declared, frames_of, Safe}
 use Rattle.machine.proofs.Programs.{empty_pop, too_deep, uneven, left_over, greedy, circle}
@@ -132,7 +133,7 @@ pub record Shown (q : PoolProgram) (Answer : Type 0) : Type 0 where
   pub run : Run q configuration
   pub unsafe : Safe q configuration → ⊥
 
-pub shown_5 : Shown empty_pop (StackGives empty_pop (of-stack.Verdict.Violated 1 (Violation.Underflow 0 0x90 1 0)))
+pub shown_5 : Shown empty_pop (StackGives empty_pop (Err (of-stack.Fault.Violated 1 (Violation.Underflow 0 0x90 1 0))))
 shown_5 = record {
   answer = stack_answers.1.0;
   configuration = opened 0 ∷ [];
@@ -140,7 +141,7 @@ shown_5 = record {
   unsafe = λ s. omega (arith, underflows.1.1, s.enough (opened 0) top underflows.1.0);
 }
 
-pub shown_6 : Shown too_deep (StackGives too_deep (of-stack.Verdict.Violated 1 (Violation.ExceedsDeclaredMax 0 1 0)))
+pub shown_6 : Shown too_deep (StackGives too_deep (Err (of-stack.Fault.Violated 1 (Violation.ExceedsDeclaredMax 0 1 0))))
 shown_6 = record {
   answer = stack_answers.1.1.0;
   configuration = opened 0 ∷ [];
@@ -148,7 +149,7 @@ shown_6 = record {
   unsafe = λ s. omega (arith, exceeds.1.1, s.after (opened 0) top exceeds.1.0);
 }
 
-pub shown_8 : Shown uneven (StackGives uneven (of-stack.Verdict.Violated 1 (Violation.MergeConflict 5 0 1)))
+pub shown_8 : Shown uneven (StackGives uneven (Err (of-stack.Fault.Violated 1 (Violation.MergeConflict 5 0 1))))
 shown_8 = record {
   answer = stack_answers.1.1.1.0;
   configuration = frame 0 5 1 0 ∷ [];
@@ -158,7 +159,7 @@ shown_8 = record {
       ⊎_elim (λ r. omega (arith, r.0, m.2)) (λ v. omega (arith, v.1, m.3)) (s.returns (frame 0 5 1 0) top m.0 m.1);
 }
 
-pub shown_9 : Shown left_over (StackGives left_over (of-stack.Verdict.Violated 1 (Violation.UnbalancedReturn 1 0 1)))
+pub shown_9 : Shown left_over (StackGives left_over (Err (of-stack.Fault.Violated 1 (Violation.UnbalancedReturn 1 0 1))))
 shown_9 = record {
   answer = stack_answers.1.1.1.1.0;
   configuration = frame 0 1 1 0 ∷ [];
@@ -166,7 +167,7 @@ shown_9 = record {
   unsafe = λ s. let z : ◌≡◌ {A = ℕ} 1 0 = s.ends (frame 0 1 1 0) top leaves_over.1 in omega arith;
 }
 
-pub shown_20 : Shown greedy (PoolGives greedy (of-pool.Verdict.ExceedsDeclaredPool 1 0 2 1))
+pub shown_20 : Shown greedy (PoolGives greedy (Err (of-pool.Fault.ExceedsDeclaredPool 1 0 2 1)))
 shown_20 = record {
   answer = pool_answers.1.1.1.1.1.0;
   configuration = frame 1 5 1 1 ∷ frame 0 10 2 1 ∷ [];
@@ -174,7 +175,7 @@ shown_20 = record {
   unsafe = λ s. omega (arith, overruns.1, s.buffers);
 }
 
-pub shown_21 : Shown circle (PoolGives circle (of-pool.Verdict.RecursiveCallGraph 1))
+pub shown_21 : Shown circle (PoolGives circle (Err (of-pool.Fault.RecursiveCallGraph 1)))
 shown_21 = record {
   answer = pool_answers.1.1.1.1.1.1;
   configuration = frame 0 0 0 0 ∷ frame 1 5 1 0 ∷ frame 0 5 1 0 ∷ [];

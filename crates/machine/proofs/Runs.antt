@@ -17,8 +17,7 @@ use Rattle.flow.proofs.StartLaws.{Begins}
 use Rattle.flow.proofs.Next.{Standing, first_stands, return_is}
 use Rattle.program.specs.declared.Room.{Room}
 use Rattle.program.specs.Program.{PoolProgram, body_of}
-use Rattle.rules.specs.declared.Look.{Look}
-use Rattle.rules.specs.Look.{Effects, look_of}
+use Rattle.rules.specs.Look.{Effects, look_of, Look}
 use Rattle.rules.specs.Assigned.{Holds, Names}
 use Rattle.rules.specs.Assigned as assigned
 use Rattle.rules.proofs.Held.{end_held}

@@ -3,6 +3,8 @@
 -- Assumes nothing.
 --     step_or_stuck    a step, or one of 01's reasons
 --     stuck_stays      and no step where there is a reason
+use Rattle.rules.specs.declared.Unknown.{Unknown}
+use Rattle.rules.specs.Look.{Known}
 use Rattle.std.specs.Prelude.{Ok, Err}
 use Prim.Native.Nat.{ℕ, ◌+◌}
 use native.Mathlib.Omega.{arith}
@@ -19,7 +21,6 @@ use Rattle.flow.specs.declared.Spot.{Spot}
 use Rattle.flow.specs.Decode.{moved, target_of, Target}
 use Rattle.flow.specs.Walk.{marks_of}
 use Rattle.program.specs.Program.{PoolProgram}
-use Rattle.rules.specs.declared.Known.{Known}
 use Rattle.effects.specs.Effects.{known_of}
 use Rattle.machine.specs.Machine.{Frame, body_in, decoded_at, operands_in, Acts, Onward, flow_at, Step, goes, returns, ends, Stuck, unassigned, cut, no_builtin, no_callee, no_target}
 
@@ -52,11 +53,11 @@ module _ (q : PoolProgram) (fr : Frame) (below : List Frame) where
     flows Return e = inl (below, returns x e)
 
   knows : (opcode size : ℕ) → decoded_at q fr ≡ Instruction opcode size → (k : Known) → known_of move_of q.program opcode (operands_in q fr size) ≡ k → Either
-  knows opcode size e (Known.Moves f) g =
+  knows opcode size e (Ok f) g =
       let x : Acts q fr = record { opcode = opcode; size = size; effect = f; decodes = e; known = g } in
       flows x (flow_at q fr x) refl
-  knows opcode size e (Known.UnknownBuiltin id) g = inr (no_builtin opcode size id e g)
-  knows opcode size e (Known.UnknownCallee id) g = inr (no_callee opcode size id e g)
+  knows opcode size e (Err (Unknown.Builtin id)) g = inr (no_builtin opcode size id e g)
+  knows opcode size e (Err (Unknown.Callee id)) g = inr (no_callee opcode size id e g)
 
   decodes : (s : decoding.Step) → decoded_at q fr ≡ s → Either
   decodes End e = inl (below, ends e)
@@ -76,7 +77,7 @@ acts_not : (q : PoolProgram) (fr : Frame) (x : Acts q fr) (s : decoding.Step) �
 acts_not q fr x s e n = n (sym e ∙ x.decodes)
 
 known_not : (q : PoolProgram) (fr : Frame) (x : Acts q fr) (opcode size : ℕ) (k : Known) → decoded_at q fr ≡ Instruction opcode size
-    → known_of move_of q.program opcode (operands_in q fr size) ≡ k → k ≡ Known.Moves x.effect
+    → known_of move_of q.program opcode (operands_in q fr size) ≡ k → k ≡ Ok x.effect
 known_not q fr x opcode size k e g =
     let z = one_opcode (decoded_at q fr) opcode size x.opcode x.size e x.decodes in
     sym g ∙ rw (z.0, z.1) x.known
@@ -108,8 +109,8 @@ module _ (q : PoolProgram) (fr : Frame) where
   acting : Stuck q fr → (y : Acts q fr) → ((to : ℕ) × Onward (marks_of size_of (body_in q fr)) (length (body_in q fr)) (fr.offset + y.size) (flow_at q fr y) to) ⊎ (flow_at q fr y ≡ Return) → ⊥
   acting (unassigned byte e) y w = acts_not q fr y (Unknown byte) e (λ f. let z : ◌≡◌ {A = ℕ} 0 1 = cc in omega arith)
   acting (cut opcode e) y w = acts_not q fr y (Truncated opcode) e (λ f. let z : ◌≡◌ {A = ℕ} 0 1 = cc in omega arith)
-  acting (no_builtin opcode size id e g) y w = let f = known_not q fr y opcode size (Known.UnknownBuiltin id) e g in let z : ◌≡◌ {A = ℕ} 0 1 = cc in omega arith
-  acting (no_callee opcode size id e g) y w = let f = known_not q fr y opcode size (Known.UnknownCallee id) e g in let z : ◌≡◌ {A = ℕ} 0 1 = cc in omega arith
+  acting (no_builtin opcode size id e g) y w = let f = known_not q fr y opcode size (Err (Unknown.Builtin id)) e g in let z : ◌≡◌ {A = ℕ} 0 1 = cc in omega arith
+  acting (no_callee opcode size id e g) y w = let f = known_not q fr y opcode size (Err (Unknown.Callee id)) e g in let z : ◌≡◌ {A = ℕ} 0 1 = cc in omega arith
   acting (no_target x word spot f g) y w =
       let s = same x y in
       let f' : (flow_at q fr y ≡ Jump word) ⊎ (flow_at q fr y ≡ Branch word) = ⊎_elim (λ e. inl (s.0 ∙ e)) (λ e. inr (s.0 ∙ e)) f in

@@ -4,6 +4,9 @@
 --     demand        demand 3, for any program
 --     runs_safe     its second half alone
 --     called_safe   its corollary over the code's promises: the answers that `stack_check` and `pool_check` gave for the same columns
+use Rattle.std.specs.Prelude.{Ok}
+use Rattle.pool.specs.Pool as of-pool
+use Rattle.stack.specs.Stack as of-stack
 use Prim.Native.Nat.{ℕ, ◌≤◌}
 use mathlib.Core.Path.{◌≡◌, sym, ◌∙◌}
 use mathlib.Core.List.{List}
@@ -11,10 +14,8 @@ use lib.ListN.{length}
 use Rattle.program.specs.declared.Room.{Room}
 use Rattle.program.specs.Program.{PoolProgram, functions_of, list_of, program_of, descriptors_of, pool_program_of}
 use Rattle.program.specs.Refusals.{room_of}
-use Rattle.stack.specs.declared.Verdict as of-stack
 use Rattle.stack.specs.Stack.{stack_answer}
 use Rattle.stack.proofs.Accepting.{stack_exact}
-use Rattle.pool.specs.declared.Verdict as of-pool
 use Rattle.pool.specs.Pool.{pool_answer}
 use Rattle.pool.proofs.Accepting.{pool_exact}
 use Rattle.machine.specs.Machine.{Frame, Run}
@@ -23,7 +24,7 @@ use Rattle.machine.specs.Demand.{Demand}
 use Rattle.machine.proofs.Sound.{sound_safe}
 
 module _ (q : PoolProgram) (stack-room room : Room) (cells : ℕ) (small : q.pool ≤ 65535) where
-  pub runs_safe : stack_answer q.program stack-room ≡ of-stack.Verdict.Accepted → pool_answer q room cells ≡ of-pool.Verdict.Accepted → {c : List Frame} → Run q c → Safe q c
+  pub runs_safe : stack_answer q.program stack-room ≡ Ok tt → pool_answer q room cells ≡ Ok tt → {c : List Frame} → Run q c → Safe q c
   runs_safe s p r = sound_safe q stack-room room cells ((stack_exact q.program stack-room).0 s) ((pool_exact q room cells small).0 p) r
 
   pub demand : Demand q stack-room room cells
@@ -45,7 +46,7 @@ module _ (ids parameters maxima offsets lengths list-ids counts flags code types
       → r ≡ stack_answer (program_of (functions_of ids parameters maxima offsets lengths) (list_of list-ids counts flags) code) (room_of (length marks) (length depths) (length queue) (length queue-depths))
       → r' ≡ pool_answer (pool_program_of (program_of (functions_of ids parameters maxima offsets lengths) (list_of list-ids counts flags) code) (descriptors_of types callees) entries pool)
       (room_of (length marks') (length depths') (length queue') (length queue-depths')) (length cells)
-      → r ≡ of-stack.Verdict.Accepted → r' ≡ of-pool.Verdict.Accepted → {c : List Frame} → Run columns c → Safe columns c
+      → r ≡ Ok tt → r' ≡ Ok tt → {c : List Frame} → Run columns c → Safe columns c
   called_safe small marks depths queue queue-depths marks' depths' queue' queue-depths' cells r r' s p a b run =
       runs_safe columns (room_of (length marks) (length depths) (length queue) (length queue-depths)) (room_of (length marks') (length depths') (length queue') (length queue-depths')) (length cells) small
       (sym s ∙ a) (sym p ∙ b) run
