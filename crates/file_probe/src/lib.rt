@@ -3,8 +3,8 @@
 
 #![tactic(auto)]
 
-use file::{Outcome, Sizes};
-use file_writer::Wrote;
+use file::{Columns, Refused, Sizes};
+use file_writer::{Tables, Unwritten};
 
 // No count and no place is as high as 2 to the power of 30.
 fn narrow(n: usize) -> u32 {
@@ -17,7 +17,7 @@ fn packed(length: usize) -> u32 {
 }
 
 fn put_sizes(answer: &mut [u32], sizes: Sizes) {
-    cells::put(answer, 2, sizes.pool as u32);
+    cells::put(answer, 2, u32::from(sizes.pool));
     cells::put(answer, 3, narrow(sizes.rows));
     cells::put(answer, 4, narrow(sizes.functions));
     cells::put(answer, 5, narrow(sizes.descriptors));
@@ -26,15 +26,15 @@ fn put_sizes(answer: &mut [u32], sizes: Sizes) {
 }
 
 // The number, 0 for a file that was read; number, place and sizes go into the answer.
-fn put_outcome(answer: &mut [u32], outcome: Outcome) -> u32 {
+fn put_outcome(answer: &mut [u32], outcome: Result<Sizes, Refused>) -> u32 {
     match outcome {
-        Outcome::Read(sizes) => {
+        Ok(sizes) => {
             cells::put(answer, 0, 0);
             cells::put(answer, 1, 0);
             put_sizes(answer, sizes);
             0
         }
-        Outcome::Refused { number, place } => {
+        Err(Refused { number, place }) => {
             cells::put(answer, 0, number);
             cells::put(answer, 1, narrow(place));
             number
@@ -59,7 +59,7 @@ pub extern "C" fn file_probe_read(
     code: &mut [u8],
     file: &[u8],
 ) -> u32 {
-    let outcome = file::read_file(
+    let mut columns = Columns {
         list_ids,
         list_counts,
         list_flags,
@@ -72,9 +72,8 @@ pub extern "C" fn file_probe_read(
         descriptor_functions,
         entries,
         code,
-        file,
-    );
-    put_outcome(answer, outcome)
+    };
+    put_outcome(answer, file::read_file(&mut columns, file))
 }
 
 #[unsafe(no_mangle)]
@@ -94,9 +93,7 @@ pub extern "C" fn file_probe_write(
     entries: &[u16],
     code: &[u8],
 ) -> u32 {
-    let wrote = file_writer::write_file(
-        out,
-        pool,
+    let tables = Tables {
         list_ids,
         list_counts,
         list_flags,
@@ -109,10 +106,10 @@ pub extern "C" fn file_probe_write(
         descriptor_functions,
         entries,
         code,
-    );
-    match wrote {
-        Wrote::Length(size) => packed(size),
-        Wrote::Refused { number } => number % 0x4000_0000 * 4 + 1,
-        Wrote::NoRoom => 2,
+    };
+    match file_writer::write_file(out, pool, &tables) {
+        Ok(size) => packed(size),
+        Err(Unwritten::Refused { number }) => number % 0x4000_0000 * 4 + 1,
+        Err(Unwritten::NoRoom) => 2,
     }
 }

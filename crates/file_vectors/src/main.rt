@@ -6,47 +6,31 @@
 mod written;
 
 ghost use Rattle.std.specs.Prelude.{◌≡◌, ◌+◌, ◌<◌, ◌≤◌, length, IfOk, OnErr};
+ghost use Rattle.std.specs.Iterator.{IsFinite};
 
-use file::{Outcome, Sizes};
+use file::{Columns, Refused, Sizes};
 use std::io;
 use std::io::Read;
 
-pub fn wide8(x: u8) -> usize
-    ensures { result < 256 }
+// Two bytes, low byte first.
+pub fn word(script: &[u8], at: usize) -> u16
+    requires { at + 1 < 18446744073709551616 }
 {
-    x as usize
+    u16::from_le_bytes([cells::at(script, at), cells::at(script, at + 1)])
 }
 
 fn mixed(sum: u64, value: u64) -> u64 {
     (sum % 1000000007 * 31 + value % 65536) % 1000000007
 }
 
-fn sum_u16(sum: u64, column: &[u16]) -> u64 {
+// A sum that goes on over the cells of one more column.
+pub fn summed<I: Iterator<Item = u64> + Drop>(sum: u64, column: I) -> u64
+    requires can { I.can_next column }
+    requires ends { IsFinite (I.remaining column) }
+{
     let mut h = sum;
-    let mut i = 0;
-    while i < column.len() {
-        h = mixed(h, cells::at(column, i) as u64);
-        i += 1;
-    }
-    h
-}
-
-fn sum_usize(sum: u64, column: &[usize]) -> u64 {
-    let mut h = sum;
-    let mut i = 0;
-    while i < column.len() {
-        h = mixed(h, cells::at(column, i) as u64);
-        i += 1;
-    }
-    h
-}
-
-pub fn sum_u8(sum: u64, column: &[u8]) -> u64 {
-    let mut h = sum;
-    let mut i = 0;
-    while i < column.len() {
-        h = mixed(h, cells::at(column, i) as u64);
-        i += 1;
+    for value in column {
+        h = mixed(h, value);
     }
     h
 }
@@ -58,7 +42,7 @@ pub fn field(rt: &impl Print, n: u64) -> io::Result<()> {
 
 fn show_sizes(rt: &impl Print, s: Sizes) -> io::Result<()> {
     rt.write_all(b"READ")?;
-    field(rt, s.pool as u64)?;
+    field(rt, u64::from(s.pool))?;
     field(rt, s.rows as u64)?;
     field(rt, s.functions as u64)?;
     field(rt, s.descriptors as u64)?;
@@ -66,68 +50,32 @@ fn show_sizes(rt: &impl Print, s: Sizes) -> io::Result<()> {
     field(rt, s.code as u64)
 }
 
-fn show_outcome(rt: &impl Print, o: Outcome) -> io::Result<()> {
-    match o {
-        Outcome::Read(s) => show_sizes(rt, s),
-        Outcome::Refused { number, place } => {
+fn show_outcome(rt: &impl Print, outcome: Result<Sizes, Refused>) -> io::Result<()> {
+    match outcome {
+        Ok(sizes) => show_sizes(rt, sizes),
+        Err(Refused { number, place }) => {
             rt.write_all(b"INPUT")?;
-            field(rt, number as u64)?;
+            field(rt, u64::from(number))?;
             field(rt, place as u64)
         }
     }
 }
 
-fn show_sum(
-    rt: &impl Print,
-    ids: &[u16],
-    counts: &[u16],
-    flags: &[u16],
-    functions: &[u16],
-    parameters: &[u16],
-    maxima: &[u16],
-    offsets: &[usize],
-    lengths: &[usize],
-    types: &[u16],
-    targets: &[u16],
-    entries: &[u16],
-    code: &[u8],
-) -> io::Result<()> {
-    let rows = sum_u16(sum_u16(sum_u16(0, ids), counts), flags);
-    let numbers = sum_u16(sum_u16(sum_u16(rows, functions), parameters), maxima);
-    let bodies = sum_usize(sum_usize(numbers, offsets), lengths);
-    let rest = sum_u16(sum_u16(sum_u16(bodies, types), targets), entries);
-    field(rt, sum_u8(rest, code))?;
+fn show_sum(rt: &impl Print, c: &Columns<'_>) -> io::Result<()> {
+    let h = summed(0, c.list_ids.iter().map(|n| u64::from(*n)));
+    let h = summed(h, c.list_counts.iter().map(|n| u64::from(*n)));
+    let h = summed(h, c.list_flags.iter().map(|n| u64::from(*n)));
+    let h = summed(h, c.function_ids.iter().map(|n| u64::from(*n)));
+    let h = summed(h, c.parameters.iter().map(|n| u64::from(*n)));
+    let h = summed(h, c.maxima.iter().map(|n| u64::from(*n)));
+    let h = summed(h, c.offsets.iter().map(|n| *n as u64));
+    let h = summed(h, c.lengths.iter().map(|n| *n as u64));
+    let h = summed(h, c.type_ids.iter().map(|n| u64::from(*n)));
+    let h = summed(h, c.descriptor_functions.iter().map(|n| u64::from(*n)));
+    let h = summed(h, c.entries.iter().map(|n| u64::from(*n)));
+    let h = summed(h, c.code.iter().map(|n| u64::from(*n)));
+    field(rt, h)?;
     rt.write_all(b"\n")
-}
-
-// Reads into the lent columns, and shows a sum over all of their cells.
-fn show_lent(
-    rt: &impl Print,
-    ids: &mut [u16],
-    counts: &mut [u16],
-    flags: &mut [u16],
-    functions: &mut [u16],
-    parameters: &mut [u16],
-    maxima: &mut [u16],
-    offsets: &mut [usize],
-    lengths: &mut [usize],
-    types: &mut [u16],
-    targets: &mut [u16],
-    entries: &mut [u16],
-    code: &mut [u8],
-    file: &[u8],
-) -> io::Result<()> {
-    show_outcome(
-        rt,
-        file::read_file(
-            ids, counts, flags, functions, parameters, maxima, offsets, lengths, types, targets,
-            entries, code, file,
-        ),
-    )?;
-    show_sum(
-        rt, ids, counts, flags, functions, parameters, maxima, offsets, lengths, types, targets,
-        entries, code,
-    )
 }
 
 // Of a column's cells all but one, where it is the short one.
@@ -135,55 +83,42 @@ fn cells_of(limit: usize, column: usize, short: usize) -> usize
     ensures { result ≤ limit }
 {
     if column == short {
-        if 0 < limit {
-            return limit - 1;
-        }
+        limit.saturating_sub(1)
+    } else {
+        limit
     }
-    limit
 }
 
 // Every column starts with sevens, so that a spare cell that changed shows in the sum. One column may be a cell short.
 fn show(rt: &impl Print, file: &[u8], short: usize) -> io::Result<()> {
-    let mut ids = [7u16; 6144];
-    let mut counts = [7u16; 6144];
-    let mut flags = [7u16; 6144];
-    let mut functions = [7u16; 128];
+    let mut list_ids = [7u16; 6144];
+    let mut list_counts = [7u16; 6144];
+    let mut list_flags = [7u16; 6144];
+    let mut function_ids = [7u16; 128];
     let mut parameters = [7u16; 128];
     let mut maxima = [7u16; 128];
     let mut offsets = [7usize; 128];
     let mut lengths = [7usize; 128];
-    let mut types = [7u16; 256];
-    let mut targets = [7u16; 256];
+    let mut type_ids = [7u16; 256];
+    let mut descriptor_functions = [7u16; 256];
     let mut entries = [7u16; 32];
     let mut code = [7u8; 12288];
-    let n0 = cells_of(6144, 1, short);
-    let n1 = cells_of(6144, 2, short);
-    let n2 = cells_of(6144, 3, short);
-    let n3 = cells_of(128, 4, short);
-    let n4 = cells_of(128, 5, short);
-    let n5 = cells_of(128, 6, short);
-    let n6 = cells_of(128, 7, short);
-    let n7 = cells_of(128, 8, short);
-    let n8 = cells_of(256, 9, short);
-    let n9 = cells_of(256, 10, short);
-    let n10 = cells_of(32, 11, short);
-    let n11 = cells_of(12288, 12, short);
-    show_lent(
-        rt,
-        &mut ids[..n0],
-        &mut counts[..n1],
-        &mut flags[..n2],
-        &mut functions[..n3],
-        &mut parameters[..n4],
-        &mut maxima[..n5],
-        &mut offsets[..n6],
-        &mut lengths[..n7],
-        &mut types[..n8],
-        &mut targets[..n9],
-        &mut entries[..n10],
-        &mut code[..n11],
-        file,
-    )
+    let mut columns = Columns {
+        list_ids: &mut list_ids[..cells_of(6144, 1, short)],
+        list_counts: &mut list_counts[..cells_of(6144, 2, short)],
+        list_flags: &mut list_flags[..cells_of(6144, 3, short)],
+        function_ids: &mut function_ids[..cells_of(128, 4, short)],
+        parameters: &mut parameters[..cells_of(128, 5, short)],
+        maxima: &mut maxima[..cells_of(128, 6, short)],
+        offsets: &mut offsets[..cells_of(128, 7, short)],
+        lengths: &mut lengths[..cells_of(128, 8, short)],
+        type_ids: &mut type_ids[..cells_of(256, 9, short)],
+        descriptor_functions: &mut descriptor_functions[..cells_of(256, 10, short)],
+        entries: &mut entries[..cells_of(32, 11, short)],
+        code: &mut code[..cells_of(12288, 12, short)],
+    };
+    show_outcome(rt, file::read_file(&mut columns, file))?;
+    show_sum(rt, &columns)
 }
 
 // One run of bytes at the end of the file so far; what does not fit is left out.
@@ -191,16 +126,10 @@ fn append(file: &mut [u8; 70000], size: usize, script: &[u8], from: usize, count
     requires { (size ≤ 70000) × ((count < 256) × (from + 256 < 18446744073709551615)) }
     ensures { result ≤ 70000 }
 {
-    let mut i = 0;
-    while i < count {
+    for i in 0..count {
         cells::put(file, size + i, cells::at(script, from + i));
-        i += 1;
     }
-    if size + count < 70000 {
-        size + count
-    } else {
-        70000
-    }
+    (size + count).min(70000)
 }
 
 fn append_runs(
@@ -215,19 +144,10 @@ fn append_runs(
     ensures { result ≤ 70000 }
 {
     let mut end = size;
-    let mut i = 0;
-    while i < times {
+    for _ in 0..times {
         end = append(file, end, script, from, count);
-        i += 1;
     }
     end
-}
-
-fn show_front(rt: &impl Print, file: &[u8], size: usize, short: usize) -> io::Result<()> {
-    if size <= file.len() {
-        show(rt, &file[..size], short)?;
-    }
-    Ok(())
 }
 
 // The size of the file after a run; an empty one shows it, and one that stands no times leaves it as it is.
@@ -245,7 +165,7 @@ fn after_run(
     ensures err { OnErr result (file.new ≡ file.old) }
 {
     if count == 0 {
-        show_front(rt, file, size, times)?;
+        show(rt, &file[..size], times)?;
         return Ok(0);
     }
     if times == 0 {
@@ -262,8 +182,8 @@ fn run(rt: &impl Print, script: &[u8]) -> io::Result<()>
     let mut size = 0;
     let mut at = 0;
     while at < script.len() {
-        let times = wide8(cells::at(script, at)) + 256 * wide8(cells::at(script, at + 1));
-        let count = wide8(cells::at(script, at + 2));
+        let times = usize::from(word(script, at));
+        let count = usize::from(cells::at(script, at + 2));
         size = after_run(rt, &mut file, size, script, at + 3, count, times)?;
         at = at + 3 + count;
     }
@@ -277,13 +197,8 @@ fn read_full<R: Read>(input: &mut R, bytes: &mut [u8]) -> usize
     let mut done = 0;
     while done < bytes.len() {
         match input.read(&mut bytes[done..]) {
-            Ok(n) => {
-                if n == 0 {
-                    break;
-                }
-                done += n;
-            }
-            Err(_) => break,
+            Ok(0) | Err(_) => break,
+            Ok(n) => done += n,
         }
     }
     done

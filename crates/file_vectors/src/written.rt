@@ -3,130 +3,51 @@
 // of one offset and one length, each in two numbers; and how many bytes are lent, in two numbers.
 ghost use Rattle.std.specs.Prelude.{◌<◌};
 
-use crate::{field, sum_u8, wide8};
-use file_writer::Wrote;
+use crate::{field, summed, word};
+use file_writer::{Tables, Unwritten};
 use std::io;
 
 // No script is as long as 2 to the power of 24.
-fn number(script: &[u8], from: usize, index: usize) -> usize
+fn number(script: &[u8], from: usize, index: usize) -> u16 {
+    word(script, from % 0x100_0000 + index % 64 * 2)
+}
+
+fn size(script: &[u8], from: usize, index: usize) -> usize
     ensures { result < 65536 }
 {
-    let at = from % 0x100_0000 + index % 64 * 2;
-    wide8(cells::at(script, at)) + 256 * wide8(cells::at(script, at + 1))
+    usize::from(number(script, from, index))
 }
 
-fn front_u16(column: &[u16], n: usize) -> &[u16] {
-    if n <= column.len() {
-        &column[..n]
-    } else {
-        column
-    }
+// In two numbers, the low one first.
+fn long(script: &[u8], from: usize, index: usize) -> usize {
+    size(script, from, index) + 65536 * size(script, from, index % 64 + 1)
 }
 
-fn front_usize(column: &[usize], n: usize) -> &[usize] {
-    if n <= column.len() {
-        &column[..n]
-    } else {
-        column
-    }
-}
-
-fn front_u8(column: &[u8], n: usize) -> &[u8] {
-    if n <= column.len() {
-        &column[..n]
-    } else {
-        column
-    }
+fn front<T>(column: &[T], n: usize) -> &[T] {
+    column.get(..n).unwrap_or(column)
 }
 
 // Words that rise by a step, from 65,535 on again from 0.
-fn fill(words: &mut [u16; 6145], first: usize, step: usize) {
-    let mut word = first % 65536;
-    let mut i: usize = 0;
-    while i < 6145 {
-        cells::put(words, i, (word % 65536) as u16);
-        word = word % 65536 + step % 65536;
-        i += 1;
+fn fill(words: &mut [u16; 6145], first: u16, step: u16) {
+    let mut next = first;
+    for word in words.iter_mut() {
+        *word = next;
+        next = next.wrapping_add(step);
     }
 }
 
-fn put_usize(column: &mut [usize; 129], row: usize, value: usize) {
-    if row < 129 {
-        column[row] = value;
-    }
-}
-
-fn write(
-    out: &mut [u8],
-    words: &[u16],
-    offsets: &[usize],
-    lengths: &[usize],
-    code: &[u8],
-    script: &[u8],
-    from: usize,
-) -> Wrote {
-    file_writer::write_file(
-        out,
-        (number(script, from, 0) % 65536) as u16,
-        front_u16(words, number(script, from, 3)),
-        front_u16(words, number(script, from, 4)),
-        front_u16(words, number(script, from, 5)),
-        front_u16(words, number(script, from, 6)),
-        front_u16(words, number(script, from, 7)),
-        front_u16(words, number(script, from, 8)),
-        front_usize(offsets, number(script, from, 9)),
-        front_usize(lengths, number(script, from, 10)),
-        front_u16(words, number(script, from, 11)),
-        front_u16(words, number(script, from, 12)),
-        front_u16(words, number(script, from, 13)),
-        front_u8(code, number(script, from, 14)),
-    )
-}
-
-fn show_wrote(rt: &impl Print, wrote: Wrote) -> io::Result<()> {
+fn show_wrote(rt: &impl Print, wrote: Result<usize, Unwritten>) -> io::Result<()> {
     match wrote {
-        Wrote::Length(size) => {
+        Ok(size) => {
             rt.write_all(b"WROTE")?;
             field(rt, size as u64)
         }
-        Wrote::Refused { number } => {
+        Err(Unwritten::Refused { number }) => {
             rt.write_all(b"REFUSED")?;
-            field(rt, number as u64)
+            field(rt, u64::from(number))
         }
-        Wrote::NoRoom => rt.write_all(b"NO ROOM"),
+        Err(Unwritten::NoRoom) => rt.write_all(b"NO ROOM"),
     }
-}
-
-fn write_into(
-    rt: &impl Print,
-    out: &mut [u8],
-    room: usize,
-    words: &[u16; 6145],
-    offsets: &[usize; 129],
-    lengths: &[usize; 129],
-    code: &[u8; 12289],
-    script: &[u8],
-    from: usize,
-) -> io::Result<()> {
-    if room <= out.len() {
-        show_wrote(
-            rt,
-            write(
-                &mut out[..room],
-                words,
-                offsets,
-                lengths,
-                code,
-                script,
-                from,
-            ),
-        )?;
-    }
-    Ok(())
-}
-
-fn show_sum(rt: &impl Print, out: &[u8; 70000]) -> io::Result<()> {
-    field(rt, sum_u8(0, out))
 }
 
 // The buffer is full of sevens, and its sum is over all of it, so that a byte that should have stayed shows.
@@ -136,16 +57,30 @@ pub fn show_case(rt: &impl Print, script: &[u8], from: usize) -> io::Result<()> 
     let mut lengths = [2usize; 129];
     let code = [9u8; 12289];
     let mut out = [7u8; 70000];
-    let row = number(script, from, 15);
-    let offset = number(script, from, 16) + 65536 * number(script, from, 17);
-    let length = number(script, from, 18) + 65536 * number(script, from, 19);
-    let room = number(script, from, 20) + 65536 * number(script, from, 21);
     fill(&mut words, number(script, from, 1), number(script, from, 2));
-    put_usize(&mut offsets, row, offset);
-    put_usize(&mut lengths, row, length);
-    write_into(
-        rt, &mut out, room, &words, &offsets, &lengths, &code, script, from,
-    )?;
-    show_sum(rt, &out)?;
+    let row = size(script, from, 15);
+    cells::put(&mut offsets, row, long(script, from, 16));
+    cells::put(&mut lengths, row, long(script, from, 18));
+    let tables = Tables {
+        list_ids: front(&words, size(script, from, 3)),
+        list_counts: front(&words, size(script, from, 4)),
+        list_flags: front(&words, size(script, from, 5)),
+        function_ids: front(&words, size(script, from, 6)),
+        parameters: front(&words, size(script, from, 7)),
+        maxima: front(&words, size(script, from, 8)),
+        offsets: front(&offsets, size(script, from, 9)),
+        lengths: front(&lengths, size(script, from, 10)),
+        type_ids: front(&words, size(script, from, 11)),
+        descriptor_functions: front(&words, size(script, from, 12)),
+        entries: front(&words, size(script, from, 13)),
+        code: front(&code, size(script, from, 14)),
+    };
+    if let Some(lent) = out.get_mut(..long(script, from, 20)) {
+        show_wrote(
+            rt,
+            file_writer::write_file(lent, number(script, from, 0), &tables),
+        )?;
+    }
+    field(rt, summed(0, out.iter().map(|n| u64::from(*n))))?;
     rt.write_all(b"\n")
 }

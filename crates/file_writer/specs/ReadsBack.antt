@@ -1,17 +1,14 @@
 -- Reading what was written gives the same program.
 -- Assumes nothing.
-use Rattle.std.specs.Prelude.{ℕ, zero, suc, ◌+◌, ◌-◌, ◌*◌, ◌<◌, ◌≤◌, ◌≡◌, refl, List, [], ◌∷◌, ◌++◌, length, get_or, take, drop}
+use Rattle.std.specs.Prelude.{ℕ, zero, suc, ◌+◌, ◌-◌, ◌*◌, ◌<◌, ◌≤◌, ◌≡◌, refl, List, [], ◌∷◌, ◌++◌, length, get_or, take, drop, Ok}
 use Rattle.std.proofs.Common.{sym, ◌∙◌, ap, append_assoc, append-nil, arith, mul-zero, length-append, take_all, drop_at, le-ltb}
-use Rattle.seven.specs.declared.Number.TheVariants as N
-use Rattle.seven.specs.Seven.{number_at}
+use Rattle.seven.specs.Seven.{value, number_at}
 use Rattle.seven.specs.Write.{form}
 use Rattle.seven.proofs.Laws.{found}
-use Rattle.file.specs.declared.Reading.{Reading}
-use Rattle.file.specs.declared.Reading.TheVariants.{At}
-use Rattle.file.specs.declared.Run.TheVariants as R
+use Rattle.file.specs.declared.Layout.{Layout}
 use Rattle.file.specs.declared.Table.{Table}
-use Rattle.file.specs.Numbers.{run_of, numbers}
-use Rattle.file.specs.Tables.{after_run, on_count, counted, table_of, begin, code_end, end_of, layout_of, pool_of, rows_of, functions_of, descriptors_of, entries_of, code_of}
+use Rattle.file.specs.Numbers.{number_in, run_of, numbers}
+use Rattle.file.specs.Tables.{table, on_count, table_of, code_end, layout_of}
 use Rattle.file.specs.Columns.{column_at, numbers_of_table}
 use Rattle.file.specs.Stated.{states, Bench, tables_in, bench_of, stated_by, stated}
 use Rattle.file.specs.Written.{forms, row_at, rows_from, table_numbers, row_table, function_table, descriptor_table, entry_table, numbers_in, file_of}
@@ -41,31 +38,28 @@ small_rows zero table i all = small_nothing
 small_rows (suc count) table i all = small_append (row_at table i) (rows_from table count (suc i)) (small_row table i all) (small_rows count table (suc i) all)
 
 -- a table whose count and numbers stand in the file is read as such
-abbrev read_table : ℕ → ℕ → ℕ → Table
-read_table count start end = record { count = count; start = start; after = At end }
-
 pub record TableReads (file before : List ℕ) (limit width count : ℕ) (ns : List ℕ) : Type 0 where
   pub start : ℕ
   pub starts : start ≡ length before + length (form count)
-  pub is : table_of file (At (length before)) limit width ≡ read_table count start (length (before ++ forms (count ∷ ns)))
+  pub is : table_of file (length before) limit width ≡ Ok (table count start (length (before ++ forms (count ∷ ns))))
   pub values : numbers (count * width) file start ≡ ns
 
 table_reads : (file before after : List ℕ) (limit width count : ℕ) (ns : List ℕ) → file ≡ before ++ (forms (count ∷ ns) ++ after) →
     count ≤ limit → count < 65536 → length ns ≡ count * width → Small ns → TableReads file before limit width count ns
-unfolding table_of counted on_count after_run forms
+unfolding table_of on_count number_in forms
 table_reads file before after limit width count ns shape low small size all =
     let start : ℕ = length before + length (form count) in
     let shape₁ : file ≡ before ++ (form count ++ (forms ns ++ after)) =
     shape ∙ ap (λ (l : List ℕ). before ++ l) (append_assoc (form count) (forms ns) after) in
     let shape₂ : file ≡ (before ++ form count) ++ (forms ns ++ after) = shape₁ ∙ sym (append_assoc before (form count) (forms ns ++ after)) in
-    let there : number_at file (length before) ≡ N.Value count start = rw shape₁ (found before (forms ns ++ after) count small) in
+    let there : number_at file (length before) ≡ value count start = rw shape₁ (found before (forms ns ++ after) count small) in
     let r : Reads ((before ++ form count) ++ (forms ns ++ after)) (length ns) (length (before ++ form count)) (length (before ++ form count) + length (forms ns)) ns =
     reads_forms after ns (before ++ form count) all in
     let at : length (before ++ form count) ≡ start = length-append before (form count) in
     let end : length (before ++ form count) + length (forms ns) ≡ length (before ++ (form count ++ forms ns)) =
     sym (length-append (before ++ form count) (forms ns)) ∙ ap length (append_assoc before (form count) (forms ns)) in
-    let run : run_of (count * width) file start ≡ R.Done (length (before ++ (form count ++ forms ns))) =
-    rw (← size, ← at, shape₂) (r.run ∙ ap R.Done end) in
+    let run : run_of (count * width) file start ≡ Ok (length (before ++ (form count ++ forms ns))) =
+    rw (← size, ← at, shape₂) (r.run ∙ ap Ok end) in
     let values : numbers (count * width) file start ≡ ns = rw (← size, ← at, shape₂) r.values in
     record { start = start; starts = refl; is = rw (there, le-ltb limit count low, run); values = values }
 
@@ -93,13 +87,11 @@ tabled_reads file before after limit table count most t shape =
     (rows_length count table 0) (small_rows count table 0 t.small)
 
 -- its columns are the program's
-column_same : (file before : List ℕ) (limit : ℕ) (table : List (List ℕ)) (count : ℕ) (read : Table) → Tabled table count limit →
-    (t : TableReads file before limit (length table) count (rows_from table count 0)) →
-    read ≡ read_table count t.start (length (before ++ forms (table_numbers table count))) → (k : ℕ) → k < length table →
-    column_at file read (length table) k ≡ get_or table k []
+column_same : (file before : List ℕ) (limit : ℕ) (columns : List (List ℕ)) (count end : ℕ) → Tabled columns count limit →
+    (t : TableReads file before limit (length columns) count (rows_from columns count 0)) → (k : ℕ) → k < length columns →
+    column_at file (table count t.start end) (length columns) k ≡ get_or columns k []
 unfolding column_at numbers_of_table
-column_same file before limit table count read h t e k lt =
-    rw (e, t.values) (columns_of_rows table k count lt (h.even k lt))
+column_same file before limit columns count end h t k lt = rw t.values (columns_of_rows columns k count lt (h.even k lt))
 
 -- the next table stands behind
 behind : (file before front after : List ℕ) → file ≡ before ++ (front ++ after) → file ≡ (before ++ front) ++ after
@@ -165,55 +157,31 @@ record Tables (p : Bench) : Type 0 where
   descriptors_read : TableReads (file_of p) (to_descriptors p) 256 2 (length p.tables.type_ids) (rows_from (descriptor_table p) (length p.tables.type_ids) 0)
   entries_read : TableReads (file_of p) (to_entries p) 32 1 (length p.tables.entries) (rows_from (entry_table p) (length p.tables.entries) 0)
   code_read : TableReads (file_of p) (to_length p) 12288 0 (length p.tables.code) []
-  pool : pool_of (file_of p) ≡ read_table p.pool pool_read.start (length (to_rows p))
-  rows : rows_of (file_of p) ≡ read_table (length p.tables.list_ids) rows_read.start (length (to_functions p))
-  functions : functions_of (file_of p) ≡ read_table (length p.tables.function_ids) functions_read.start (length (to_descriptors p))
-  descriptors : descriptors_of (file_of p) ≡ read_table (length p.tables.type_ids) descriptors_read.start (length (to_entries p))
-  entries : entries_of (file_of p) ≡ read_table (length p.tables.entries) entries_read.start (length (to_length p))
-  code : code_of (file_of p) ≡ read_table (length p.tables.code) code_read.start (length (to_code p))
-
-begin_is : (file : List ℕ) → length file ≤ 65536 → begin file ≡ At 0
-unfolding begin
-begin_is file h = rw (le-ltb 65536 (length file) h)
-
--- a table read from where the one before it ended
-follows : (file : List ℕ) (limit width : ℕ) (before : Table) {count start : ℕ} {end : ℕ} (after : Table) → before ≡ read_table count start end →
-    table_of file (At end) limit width ≡ after → table_of file before.after limit width ≡ after
-follows file limit width before {count} {start} {end} after e h = ap (λ (t : Table). table_of file t.after limit width) e ∙ h
 
 tables : (p : Bench) → Writable p → Tables p
-unfolding pool_of rows_of functions_of descriptors_of entries_of code_of table_numbers
 tables p w =
     let f : List ℕ = file_of p in
     let s : Shapes p = shapes p in
     let c : ℕ = length p.tables.code in
-    let pool_read : TableReads f [] 65535 0 p.pool [] =
-    table_reads f [] _ 65535 0 p.pool [] s.rows (omega (arith, w.pool)) w.pool (sym (mul-zero p.pool)) small_nothing in
-    let rows_read = tabled_reads f (to_rows p) _ 6144 (row_table p) (length p.tables.list_ids) (omega arith) w.rows s.rows in
-    let functions_read = tabled_reads f (to_functions p) _ 128 (function_table p) (length p.tables.function_ids) (omega arith) w.functions s.functions in
-    let descriptors_read = tabled_reads f (to_descriptors p) _ 256 (descriptor_table p) (length p.tables.type_ids) (omega arith) w.descriptors s.descriptors in
-    let entries_read = tabled_reads f (to_entries p) _ 32 (entry_table p) (length p.tables.entries) (omega arith) w.entries s.entries in
-    let code_read : TableReads f (to_length p) 12288 0 c [] =
-    table_reads f (to_length p) p.tables.code 12288 0 c [] s.size w.code (omega (arith, w.code)) (sym (mul-zero c)) small_nothing in
-    let pool = ap (λ (r : Reading). table_of f r 65535 0) (begin_is f w.size) ∙ pool_read.is in
-    let rows = follows f 6144 3 (pool_of f) _ pool rows_read.is in
-    let functions = follows f 128 5 (rows_of f) _ rows functions_read.is in
-    let descriptors = follows f 256 2 (functions_of f) _ functions descriptors_read.is in
-    let entries = follows f 32 1 (descriptors_of f) _ descriptors entries_read.is in
-    let code = follows f 12288 0 (entries_of f) _ entries code_read.is in
     record {
-      pool_read = pool_read;
-      rows_read = rows_read;
-      functions_read = functions_read;
-      descriptors_read = descriptors_read;
-      entries_read = entries_read;
-      code_read = code_read;
-      pool = pool;
-      rows = rows;
-      functions = functions;
-      descriptors = descriptors;
-      entries = entries;
-      code = code;
+      pool_read = table_reads f [] _ 65535 0 p.pool [] s.rows (omega (arith, w.pool)) w.pool (sym (mul-zero p.pool)) small_nothing;
+      rows_read = tabled_reads f (to_rows p) _ 6144 (row_table p) (length p.tables.list_ids) (omega arith) w.rows s.rows;
+      functions_read = tabled_reads f (to_functions p) _ 128 (function_table p) (length p.tables.function_ids) (omega arith) w.functions s.functions;
+      descriptors_read = tabled_reads f (to_descriptors p) _ 256 (descriptor_table p) (length p.tables.type_ids) (omega arith) w.descriptors s.descriptors;
+      entries_read = tabled_reads f (to_entries p) _ 32 (entry_table p) (length p.tables.entries) (omega arith) w.entries s.entries;
+      code_read = table_reads f (to_length p) p.tables.code 12288 0 c [] s.size w.code (omega (arith, w.code)) (sym (mul-zero c)) small_nothing;
+    }
+
+-- the layout of the program's file
+read_layout : (p : Bench) → Tables p → Layout
+read_layout p t =
+    record {
+      pool = table p.pool t.pool_read.start (length (to_rows p));
+      rows = table (length p.tables.list_ids) t.rows_read.start (length (to_functions p));
+      functions = table (length p.tables.function_ids) t.functions_read.start (length (to_descriptors p));
+      descriptors = table (length p.tables.type_ids) t.descriptors_read.start (length (to_entries p));
+      entries = table (length p.tables.entries) t.entries_read.start (length (to_length p));
+      code = table (length p.tables.code) t.code_read.start (length (to_code p));
     }
 
 -- the code's bytes
@@ -228,21 +196,17 @@ code_start p t =
     t.code_read.starts
     ∙ sym (length-append (to_length p) (form (length p.tables.code) ++ []) ∙ ap (λ (l : List ℕ). length (to_length p) + length l) (append-nil (form (length p.tables.code))))
 
-bench_same : (p : Bench) → Writable p → (t : Tables p) → bench_of (file_of p) ≡ p
-unfolding bench_of tables_in layout_of
+bench_same : (p : Bench) → Writable p → (t : Tables p) → bench_of (file_of p) (read_layout p t) ≡ p
+unfolding bench_of tables_in read_layout
 bench_same p w t =
     let f : List ℕ = file_of p in
-    let same_row = column_same f (to_rows p) 6144 (row_table p) (length p.tables.list_ids) (rows_of f) w.rows t.rows_read t.rows in
-    let same-function = column_same f (to_functions p) 128 (function_table p) (length p.tables.function_ids) (functions_of f) w.functions t.functions_read t.functions in
-    let same-descriptor = column_same f (to_descriptors p) 256 (descriptor_table p) (length p.tables.type_ids) (descriptors_of f) w.descriptors t.descriptors_read t.descriptors in
-    let same-entry = column_same f (to_entries p) 32 (entry_table p) (length p.tables.entries) (entries_of f) w.entries t.entries_read t.entries in
-    let count-is : (code_of f).count ≡ length p.tables.code = ap (λ (x : Table). x.count) t.code in
-    let start_is : (code_of f).start ≡ length (to_code p) = ap (λ (x : Table). x.start) t.code ∙ code_start p t in
-    let code : take (code_of f).count (drop (code_of f).start f) ≡ p.tables.code =
-    code_bytes f (to_code p) p.tables.code (code_of f).count (code_of f).start (shapes p).code start_is count-is in
-    let pool : (pool_of f).count ≡ p.pool = ap (λ (x : Table). x.count) t.pool in
+    let same_row = column_same f (to_rows p) 6144 (row_table p) (length p.tables.list_ids) (length (to_functions p)) w.rows t.rows_read in
+    let same-function = column_same f (to_functions p) 128 (function_table p) (length p.tables.function_ids) (length (to_descriptors p)) w.functions t.functions_read in
+    let same-descriptor = column_same f (to_descriptors p) 256 (descriptor_table p) (length p.tables.type_ids) (length (to_entries p)) w.descriptors t.descriptors_read in
+    let same-entry = column_same f (to_entries p) 32 (entry_table p) (length p.tables.entries) (length (to_length p)) w.entries t.entries_read in
+    let code : take (length p.tables.code) (drop t.code_read.start f) ≡ p.tables.code =
+    code_bytes f (to_code p) p.tables.code (length p.tables.code) t.code_read.start (shapes p).code (code_start p t) refl in
     rw (
-      pool,
       same_row 0 (omega arith),
       same_row 1 (omega arith),
       same_row 2 (omega arith),
@@ -257,20 +221,29 @@ bench_same p w t =
       code,
     )
 
-end_is : (file : List ℕ) (count start : ℕ) → length file ≡ start + count → code_end file count (At start) ≡ At (start + count)
+end_is : (file : List ℕ) (code : Table) → length file ≡ code.end + code.count → code_end file code ≡ Ok (code.end + code.count)
 unfolding code_end
-end_is file count start e =
-    rw (le-ltb (length file - start) count (omega arith), le-ltb count (length file - start) (omega arith))
+end_is file code e =
+    rw (le-ltb (length file - code.end) code.count (omega arith), le-ltb code.count (length file - code.end) (omega arith))
 
-read_to_end : (p : Bench) (t : Tables p) → (layout_of (file_of p)).end ≡ At (length (to_code p) + length p.tables.code)
-unfolding layout_of end_of
-read_to_end p t =
-    rw t.code
-    (end_is (file_of p) (length p.tables.code) (length (to_code p))
-    (ap length (shapes p).code ∙ length-append (to_code p) p.tables.code))
+layout_is : (p : Bench) → Writable p → (t : Tables p) → layout_of (file_of p) ≡ Ok (read_layout p t)
+unfolding layout_of read_layout table_numbers
+layout_is p w t =
+    let end = end_is (file_of p) (table (length p.tables.code) t.code_read.start (length (to_code p)))
+    (ap length (shapes p).code ∙ length-append (to_code p) p.tables.code) in
+    rw (
+      le-ltb 65536 (length (file_of p)) w.size,
+      t.pool_read.is,
+      t.rows_read.is,
+      t.functions_read.is,
+      t.descriptors_read.is,
+      t.entries_read.is,
+      t.code_read.is,
+      end,
+    )
 
 pub reads_back : (p : Bench) → Writable p → stated (file_of p) ≡ states p
 unfolding stated stated_by
 reads_back p w =
     let t : Tables p = tables p w in
-    rw (read_to_end p t) (ap states (bench_same p w t))
+    rw (layout_is p w t) (ap states (bench_same p w t))

@@ -1,56 +1,49 @@
 -- What the writer does: number after number into a buffer, then the code; nothing once there is no room (01, "Bench file, program and
 -- C entry"; 31 for columns of one table that differ in length, a count above its limit, an offset or length above 65,535).
 -- Assumes nothing.
-use Rattle.std.specs.Prelude.{ℕ, zero, suc, ◌+◌, ◌*◌, List, [], ◌∷◌, ◌++◌, Bool, true, false, cond, length, get_or, take, ltb, leb, eqb}
-use Rattle.seven.specs.declared.Put.{Put}
-use Rattle.seven.specs.declared.Put.TheVariants.{After, NoRoom}
+use Rattle.std.specs.Prelude.{ℕ, ◌+◌, List, [], ◌∷◌, ◌++◌, Bool, true, false, cond, length, take, map, ltb, leb, eqb, Option, Some, None, Result, Ok, Err}
 use Rattle.seven.specs.Write.{laid, written}
 use Rattle.file.specs.declared.Room.{Room}
-use Rattle.file_writer.specs.declared.Wrote.{Wrote}
-use Rattle.file_writer.specs.declared.Wrote.TheVariants as W
+use Rattle.file_writer.specs.declared.Unwritten.{Unwritten}
+use Rattle.file_writer.specs.declared.Unwritten.TheVariants.{Refused, NoRoom}
+use Rattle.file_writer.specs.declared.Tables.{Tables}
+use Rattle.file_writer.specs.declared.write.Column.{Column}
+use Rattle.file_writer.specs.declared.write.Column.TheVariants.{Narrow, Wide}
 use Rattle.file.specs.Columns.{over}
-use Rattle.file.specs.Stated.{Columns, Bench, room_of}
-use Rattle.file.specs.Written.{file_of}
+use Rattle.file.specs.Stated.{Columns, columns, Bench, room_of}
+use Rattle.file.specs.Written.{rows_from, file_of}
 
+-- what lent columns hold
+abbrev pub columns_of : Tables → Columns
+columns_of t =
+    columns t.list_ids.now t.list_counts.now t.list_flags.now t.function_ids.now t.parameters.now t.maxima.now t.offsets.now t.lengths.now
+    t.type_ids.now t.descriptor_functions.now t.entries.now t.code.now
+
+-- the place after what was written, or no room, and the buffer
 abbrev pub Buffer : Type 0
-Buffer = Put × List ℕ
+Buffer = Option ℕ × List ℕ
 
-unfoldable pub put_one : Put → ℕ → List ℕ → Buffer
-put_one (After at) n buffer = written buffer at n
-put_one NoRoom n buffer = (NoRoom, buffer)
+unfoldable pub put_one : Option ℕ → ℕ → List ℕ → Buffer
+put_one (Some at) n buffer = written buffer at n
+put_one None n buffer = (None, buffer)
 
-unfoldable pub put_all : Put → List ℕ → List ℕ → Buffer
+unfoldable pub put_all : Option ℕ → List ℕ → List ℕ → Buffer
 put_all state [] buffer = (state, buffer)
 put_all state (n ∷ rest) buffer = put_all (put_one state n buffer).0 rest (put_one state n buffer).1
 
-unfoldable pub put_bytes : Put → List ℕ → List ℕ → Buffer
-put_bytes (After at) bytes buffer =
-    cond (leb (at + length bytes) (length buffer)) (After (at + length bytes), laid buffer at bytes) (NoRoom, buffer)
-put_bytes NoRoom bytes buffer = (NoRoom, buffer)
+unfoldable pub put_bytes : Option ℕ → List ℕ → List ℕ → Buffer
+put_bytes (Some at) bytes buffer =
+    cond (leb (at + length bytes) (length buffer)) (Some (at + length bytes), laid buffer at bytes) (None, buffer)
+put_bytes None bytes buffer = (None, buffer)
 
 -- a cell of the machine's size, where it has a form
 unfoldable pub fit : ℕ → ℕ
 fit n = cond (ltb n 65536) n 0
 
--- the number at an index of a row
-unfoldable pub cell_of : List ℕ → List ℕ → List ℕ → List ℕ → List ℕ → ℕ → ℕ → ℕ
-cell_of c0 c1 c2 c3 c4 index row =
-    cond (eqb index 0) (get_or c0 row 0)
-    (cond (eqb index 1) (get_or c1 row 0)
-    (cond (eqb index 2) (get_or c2 row 0) (cond (eqb index 3) (fit (get_or c3 row 0)) (fit (get_or c4 row 0)))))
-
--- where the number after one stands
-unfoldable pub next_index : ℕ → ℕ → ℕ
-next_index width index = cond (ltb (index + 1) width) (index + 1) 0
-
-unfoldable pub next_row : ℕ → ℕ → ℕ → ℕ
-next_row width index row = cond (ltb (index + 1) width) row (row + 1)
-
--- the numbers of a table one by one, from an index of a row on
-unfoldable pub listed : List ℕ → List ℕ → List ℕ → List ℕ → List ℕ → ℕ → ℕ → ℕ → ℕ → List ℕ
-listed c0 c1 c2 c3 c4 width zero index row = []
-listed c0 c1 c2 c3 c4 width (suc left) index row =
-    cell_of c0 c1 c2 c3 c4 index row ∷ listed c0 c1 c2 c3 c4 width left (next_index width index) (next_row width index row)
+-- the numbers of a column
+abbrev pub column_of : Column → List ℕ
+column_of (Narrow cells) = cells.now
+column_of (Wide cells) = map fit cells.now
 
 unfoldable pub all_small : List ℕ → Bool
 all_small [] = true
@@ -76,35 +69,32 @@ refused_in room offsets lengths =
 unfoldable pub refused_to_write : Bench → Bool
 refused_to_write p = refused_in (room_of p.tables) p.tables.offsets p.tables.lengths
 
--- a table: its count, then its numbers
-unfoldable pub counted : List ℕ → List ℕ → List ℕ → List ℕ → List ℕ → ℕ → List ℕ
-counted c0 c1 c2 c3 c4 width = fit (length c0) ∷ listed c0 c1 c2 c3 c4 width (fit (length c0) * width) 0 0
-
-abbrev pub spare : List ℕ
-spare = 0 ∷ []
+-- a table: its count, then its numbers, row by row
+unfoldable pub counted : List (List ℕ) → ℕ → List ℕ
+counted table count = fit count ∷ rows_from table (fit count) 0
 
 -- all numbers, in the order of the file
 unfoldable pub all_numbers : ℕ → Columns → List ℕ
 all_numbers pool t =
     pool ∷
-    (counted t.list_ids t.list_counts t.list_flags spare spare 3 ++
-    (counted t.function_ids t.parameters t.maxima t.offsets t.lengths 5 ++
-    (counted t.type_ids t.descriptor_functions spare spare spare 2 ++
-    (counted t.entries spare spare spare spare 1 ++ (fit (length t.code) ∷ [])))))
+    (counted (t.list_ids ∷ (t.list_counts ∷ (t.list_flags ∷ []))) (length t.list_ids) ++
+    (counted (t.function_ids ∷ (t.parameters ∷ (t.maxima ∷ (map fit t.offsets ∷ (map fit t.lengths ∷ []))))) (length t.function_ids) ++
+    (counted (t.type_ids ∷ (t.descriptor_functions ∷ [])) (length t.type_ids) ++
+    (counted (t.entries ∷ []) (length t.entries) ++ (fit (length t.code) ∷ [])))))
 
 unfoldable pub wrote_all : ℕ → Columns → List ℕ → Buffer
 wrote_all pool t buffer =
-    put_bytes (put_all (After 0) (all_numbers pool t) buffer).0 t.code (put_all (After 0) (all_numbers pool t) buffer).1
+    put_bytes (put_all (Some 0) (all_numbers pool t) buffer).0 t.code (put_all (Some 0) (all_numbers pool t) buffer).1
 
 -- a file in the front of a buffer, handed over
-unfoldable pub delivered : List ℕ → ℕ → List ℕ → Wrote × List ℕ
+unfoldable pub delivered : List ℕ → ℕ → List ℕ → Result ℕ Unwritten × List ℕ
 delivered buffer size out =
-    cond (ltb (length buffer) size) (W.NoRoom, out)
-    (cond (ltb (length out) size) (W.NoRoom, out) (W.Length size, over (take size buffer) out))
+    cond (ltb (length buffer) size) (Err NoRoom, out)
+    (cond (ltb (length out) size) (Err NoRoom, out) (Ok size, over (take size buffer) out))
 
 -- the answer and the lent buffer: 31, or "no room, in the buffer or within 65,536 bytes", or the file's length and the file
-unfoldable pub write_into : Bench → List ℕ → Wrote × List ℕ
+unfoldable pub write_into : Bench → List ℕ → Result ℕ Unwritten × List ℕ
 write_into p out =
-    cond (refused_to_write p) (W.Refused 31, out)
-    (cond (ltb 65536 (length (file_of p))) (W.NoRoom, out)
-    (cond (ltb (length out) (length (file_of p))) (W.NoRoom, out) (W.Length (length (file_of p)), over (file_of p) out)))
+    cond (refused_to_write p) (Err (Refused 31), out)
+    (cond (ltb 65536 (length (file_of p))) (Err NoRoom, out)
+    (cond (ltb (length out) (length (file_of p))) (Err NoRoom, out) (Ok (length (file_of p)), over (file_of p) out)))

@@ -1,19 +1,12 @@
 -- `file_writer::write::put_bytes` meets its contract: the bytes are laid over the buffer where they fit (WriteLaws.antt). Assumes nothing.
-use native.Mathlib.Omega.{arith}
-use Rattle.file_writer.specs.Writing.{put_bytes}
+use Rattle.std.proofs.Common.{arith}
 use Rattle.file_writer.proofs.WriteLaws.{put_back, bytes_fit, bytes_full}
 use Rattle.file_writer.proofs.write.put_bytes.Goals as goal
+use Rattle.file_writer.proofs.write.put_bytes.Goals.{then-buffer-at-via-then-buffer-at, then-buffer-at-via-else-buffer-at+then-buffer-at-2}
 
 pub returns-then-buffer-at : goal.returns-then-buffer-at
-returns-then-buffer-at c = rw c.in-After.is (bytes_full c.args.buffer.now c.args.bytes.now _ (omega arith))
+returns-then-buffer-at c = bytes_full c.args.buffer.now c.args.bytes.now c.args.at
+    (elim c.then-buffer-at.branch [ then-buffer-at-via-then-buffer-at w ↦ omega arith | then-buffer-at-via-else-buffer-at+then-buffer-at-2 w ↦ omega arith ])
 
-pub returns-then-buffer-at-2 : goal.returns-then-buffer-at-2
-returns-then-buffer-at-2 c = rw c.in-After.is (bytes_full c.args.buffer.now c.args.bytes.now _ (omega arith))
-
-pub returns-in-NoRoom : goal.returns-in-NoRoom
-unfolding put_bytes
-returns-in-NoRoom c = rw c.in-NoRoom.is
-
-pub returns-else-buffer-at-2 : goal.returns-else-buffer-at-2
-returns-else-buffer-at-2 c = rw c.in-After.is (bytes_fit c.args.buffer.now c.args.bytes.now c.in-After.at _ (omega arith)
-    (put_back c.args.buffer.now c.args.bytes.now c.copy_from_slice.new.self c.in-After.at c.copy_from_slice.ensures.after))
+pub returns : goal.returns
+returns c = bytes_fit c.args.buffer.now c.args.bytes.now c.args.at _ (omega arith) (put_back c.args.buffer.now c.args.bytes.now c.copy_from_slice.new.self c.args.at c.copy_from_slice.ensures.after)

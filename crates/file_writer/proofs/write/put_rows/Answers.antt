@@ -1,31 +1,28 @@
--- `file_writer::write::put_rows` meets its contract: at each turn what is left to write gives what the whole was to give (WriteLaws.antt). The
--- measure is how many numbers are left. Assumes nothing.
-use mathlib.Core.Path.{refl, sym, ◌∙◌}
-use native.Mathlib.Nat.{sub-zero}
-use borrow.Author.Rules.{rules}
-use native.Mathlib.Omega.{arith}
-use Rattle.file_writer.proofs.WriteLaws.{index_small, row_small, put_turn, put_end}
+-- `file_writer::write::put_rows` meets its contract: each turn puts one row more, and where there is no room none behind it is put
+-- (WriteLaws.antt). Assumes nothing.
+use Rattle.std.proofs.Common.{ℕ, ◌+◌, ◌-◌, List, ◌++◌, sym, ◌∙◌, ap, refl, arith, map, Some}
+use Rattle.file.specs.Written.{row_at, rows_from}
+use Rattle.file_writer.specs.Writing.{column_of, put_all}
+use Rattle.file_writer.proofs.WriteLaws.{put_more, put_stops, rows_next, rows_rest}
 use Rattle.file_writer.proofs.write.put_rows.Goals as goal
 
-pub loop-i-init : goal.loop-i-init
-loop-i-init c = record { within = search rules; index-within = search rules; row_within = search rules; len = refl; goes_on = rw sub-zero }
+pub loop-row-init : goal.loop-row-init
+unfolding put_all rows_from
+loop-row-init c = refl
 
-pub loop-i-preserved : goal.loop-i-preserved
-loop-i-preserved c = let l = c.loop-i in
+pub returns-in_err-at : goal.returns-in_err-at
+returns-in_err-at c = let l = c.loop-row in
     let a = c.args in
-    record {
-      within = search rules;
-      index-within = omega (arith, c.next_spot-spot.ensures.0, index_small a.width l.index, l.invariant.index-within);
-      row_within = omega (arith, c.next_spot-spot.ensures.1, row_small a.width l.index l.row, l.invariant.row_within);
-      len = omega (arith, c.put_number-state.auto.buffer, l.invariant.len);
-      goes_on =
-          put_turn a.c0.now a.c1.now a.c2.now a.c3.now a.c4.now a.width a.total l.i l.index l.row l.state l.buffer
-          c.cell-n.result _ _ c.put_number-state.result _ c.loop-i-test.true c.cell-n.ensures c.put_number-state.ensures
-          c.next_spot-spot.ensures.0 c.next_spot-spot.ensures.1
-          ∙ l.invariant.goes_on;
-    }
+    let t = map column_of a.columns.now in
+    let front = (rw c.in_err-at.was at c.put_row.ensures) ∙ put_more (rows_from t l.row 0) (row_at t l.row) (Some a.start) a.buffer.now (Some l.at) l.buffer l.invariant in
+    rw c.from_residual.ensures
+    (put_stops (rows_from t l.row 0 ++ row_at t l.row) (rows_from t (a.count - (l.row + 1)) (l.row + 1)) (Some a.start) a.buffer.now c.put_row.new.buffer front
+    ∙ ap (λ (ns : List ℕ). put_all (Some a.start) ns a.buffer.now) (sym (rows_rest t l.row a.count (omega arith))))
 
-pub returns : goal.returns
-returns c = let l = c.loop-i in
+pub loop-row-preserved : goal.loop-row-preserved
+loop-row-preserved c = let l = c.loop-row in
     let a = c.args in
-    sym (put_end a.c0.now a.c1.now a.c2.now a.c3.now a.c4.now a.width a.total l.i l.index l.row l.state l.buffer c.loop-i-test.false) ∙ l.invariant.goes_on
+    let t = map column_of a.columns.now in
+    (rw c.in_ok-at.was at c.put_row.ensures)
+    ∙ (put_more (rows_from t l.row 0) (row_at t l.row) (Some a.start) a.buffer.now (Some l.at) l.buffer l.invariant
+    ∙ ap (λ (ns : List ℕ). put_all (Some a.start) ns a.buffer.now) (sym (rows_next t l.row)))
