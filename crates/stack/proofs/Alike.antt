@@ -8,8 +8,7 @@ use lib.ListN.{length, get_or, take, drop, length-take, length-drop}
 use lib.Seq.{get_or-take, get_or-drop}
 use Rattle.flow.specs.Walk.{walk_by, end_of, marks_of}
 use Rattle.program.specs.Program.{Program, body_of, body_is}
-use Rattle.rules.specs.declared.Look.{Look}
-use Rattle.rules.specs.Look.{Effects}
+use Rattle.rules.specs.Look.{Effects, Look}
 use Rattle.rules.specs.Walk.{walk_of}
 use Rattle.rules.proofs.Cases.{look_alike}
 use Rattle.stack.specs.Stack.{on_decoded, body_answer, on_walked, functions_from, functions_answer}

@@ -1,11 +1,12 @@
 -- The whole call: what the code reads out of its tables and columns on an input that is taken is 01's, the cleared scratch has room, and what the
 -- answer leaves of the scratch.
 -- Assumes nothing.
-use Rattle.std.specs.Prelude.{Ok}
+use Rattle.stack.specs.declared.Fault.{Fault}
+use Rattle.rules.specs.Walk.{Walked}
+use Rattle.std.specs.Prelude.{Ok, Err}
 use Prim.Native.Nat.{ℕ, zero, suc, ◌≤◌}
 use native.Mathlib.Omega.{arith}
 use mathlib.Core.Path.{◌≡◌, refl, ◌∙◌, ap, ap₂, sym}
-use mathlib.Core.Bool.{true, false, true≢false}
 use mathlib.Core.List.{List}
 use lib.ListN.{length, get_or}
 use Rattle.cells.specs.Zeros.{zeros, length_zeros, ZeroAfter}
@@ -16,17 +17,16 @@ use Rattle.tables.specs.Packed.{size_in, move_in, size_table, word_table}
 use Rattle.tables.specs.Stored.{size_stored, move_stored, GoesOn, goes_on_stored}
 use Rattle.program.specs.declared.Room.{Room}
 use Rattle.program.specs.Program.{Program, body_of}
-use Rattle.program.specs.Refusals.{stack_input, is_taken, room_of, Input}
-use Rattle.program.specs.Taken.{StackTaken, taken_is}
+use Rattle.program.specs.declared.Refusal.{Refusal}
+use Rattle.program.specs.Refusals.{stack_input, room_of, Input}
+use Rattle.program.specs.Taken.{StackTaken}
 use Rattle.program.proofs.Taken.{stack_taken}
-use Rattle.rules.specs.declared.Walked.{Walked}
 use Rattle.rules.specs.Look.{Effects}
 use Rattle.effects.specs.Effects.{directory_of, known_by, known_of, given_back}
 use Rattle.effects.proofs.Laws.{known_is}
-use Rattle.stack.specs.declared.Verdict.{Verdict}
 use Rattle.stack.proofs.Alike.{body_byte, answer_alike}
 use Rattle.stack.specs.Columns.{Cleared, Roomy}
-use Rattle.stack.specs.Stack.{on_input, on_walked, functions_from, functions_answer, stack_answer, scratch_after, body_answer}
+use Rattle.stack.specs.Stack.{on_input, on_walked, functions_from, functions_answer, stack_answer, scratch_after, body_answer, Verdict}
 
 sizes_are : (sizes : List ℕ) → sizes ≡ size_table → size_in sizes ≡ size_of
 sizes_are sizes e = ap size_in e ∙ (λ i op. size_stored op i)
@@ -61,36 +61,27 @@ taken_room p m d q e marks depths queue t em ed eq =
       record { marks_room = omega (arith, t.marks_room); depths_room = omega (arith, t.depths_room); queue_room = omega (arith, t.queue_room); small = omega (arith, t.code_length) },
     )
 
-not_taken : (input : Input) (rest : Verdict) → is_taken input ≡ false → Verdict.Refused input ≡ on_input input rest
-not_taken (Ok _) rest e = absurd (true≢false e)
-not_taken Input.TooMany rest e = refl
-not_taken Input.ScratchShort rest e = refl
-not_taken (Input.ListFault k) rest e = refl
-not_taken (Input.IdRepeated k) rest e = refl
-not_taken (Input.BodyOutside k) rest e = refl
-not_taken Input.PoolTooLarge rest e = refl
+module _ (p : Program) (room : Room) where
+  pub call_taken : Ok tt ≡ stack_input p room → StackTaken p room
+  call_taken e = stack_taken p room (sym e)
 
-module _ (p : Program) (room : Room) (input : Input) (is : input ≡ stack_input p room) where
-  pub call_taken : is_taken input ≡ true → StackTaken p room
-  call_taken e = stack_taken p room (sym is ∙ taken_is input e)
-
-  pub call_refused : is_taken input ≡ false → Verdict.Refused input ≡ stack_answer p room
+  pub call_refused : (refusal : Refusal) → Err refusal ≡ stack_input p room → Err (Fault.Refused refusal) ≡ stack_answer p room
   unfolding stack_answer
-  call_refused e = not_taken input (functions_answer size_of (known_of move_of p) p) e ∙ ap (λ (i : Input). on_input i (functions_answer size_of (known_of move_of p) p)) is
+  call_refused refusal e = ap (λ (i : Input). on_input i (functions_answer size_of (known_of move_of p) p)) e
 
-  pub call_answers : is_taken input ≡ true → (v : Verdict) → v ≡ functions_answer size_of (known_of move_of p) p → v ≡ stack_answer p room
+  pub call_answers : Ok tt ≡ stack_input p room → (v : Verdict) → v ≡ functions_answer size_of (known_of move_of p) p → v ≡ stack_answer p room
   unfolding stack_answer
-  call_answers e v a = a ∙ ap (λ (i : Input). on_input i (functions_answer size_of (known_of move_of p) p)) (sym (taken_is input e) ∙ is)
+  call_answers e v a = a ∙ ap (λ (i : Input). on_input i (functions_answer size_of (known_of move_of p) p)) e
 
 -- the bodies' answer is no refusal
 abbrev Judged : Verdict → Type 0
-Judged (Verdict.Refused input) = ⊥
-Judged Verdict.Accepted = Unit {0}
-Judged (Verdict.Violated function v) = Unit {0}
+Judged (Ok _) = Unit {0}
+Judged (Err (Fault.Refused refusal)) = ⊥
+Judged (Err (Fault.Violated function v)) = Unit {0}
 
 walked_judged : (function : ℕ) (w : Walked) (rest : Verdict) → Judged rest → Judged (on_walked function w rest)
-walked_judged function Walked.Accepted rest j = j
-walked_judged function (Walked.Violated v) rest j = tt
+walked_judged function (Ok _) rest j = j
+walked_judged function (Err v) rest j = tt
 
 from_judged : (sizes : ℕ → ℕ) (known : Effects) (p : Program) (left row : ℕ) → Judged (functions_from sizes known p left row)
 from_judged sizes known p zero row = tt
@@ -102,13 +93,13 @@ judged sizes known p = from_judged sizes known p (length p.functions.ids) 0
 
 zero_by : (v : Verdict) (first last : List ℕ) → Judged v → ZeroAfter first last → last ≡ scratch_after v first
 unfolding scratch_after
-zero_by (Verdict.Refused input) first last j z = absurd j
-zero_by Verdict.Accepted first last j z = z
-zero_by (Verdict.Violated function v) first last j z = z
+zero_by (Ok _) first last j z = z
+zero_by (Err (Fault.Refused refusal)) first last j z = absurd j
+zero_by (Err (Fault.Violated function v)) first last j z = z
 
 pub scratch_zero : (p : Program) (v : Verdict) (first last : List ℕ) → v ≡ functions_answer size_of (known_of move_of p) p → ZeroAfter first last → last ≡ scratch_after v first
 scratch_zero p v first last e z = zero_by v first last (rw e (judged size_of (known_of move_of p) p)) z
 
-pub scratch_kept : (input : Input) (column : List ℕ) → column ≡ scratch_after (Verdict.Refused input) column
+pub scratch_kept : (refusal : Refusal) (column : List ℕ) → column ≡ scratch_after (Err (Fault.Refused refusal)) column
 unfolding scratch_after
-scratch_kept input column = refl
+scratch_kept refusal column = refl

@@ -1,3 +1,4 @@
+pub mod Looking
 pub mod Putting
 pub mod Walking
 pub mod Running

@@ -1,5 +1,7 @@
 -- What putting a successor does to the columns, case by case: it gets a depth and joins the queue, it has that depth already, or 8.
 -- Assumes nothing.
+use Rattle.std.specs.Prelude.{Result, Ok, Err}
+use Rattle.rules.specs.declared.Onward.TheVariants.{Leaves, Goes, Forks}
 use Prim.Native.Nat.{ℕ, ◌+◌, ◌-◌, ◌≤◌, ◌<◌}
 use native.Mathlib.Numerals.{add-one}
 use native.Mathlib.Omega.{arith}
@@ -11,30 +13,28 @@ use lib.ListN.{length, get_or, set, take, length-set}
 use lib.Seq.{take-suc-set, get_or-set_same}
 use borrow.Author.Tests.{eqb-true, eqb-false}
 use Rattle.rules.specs.declared.Violation.{Violation}
-use Rattle.rules.specs.declared.Look.{Look}
-use Rattle.rules.specs.Look.{Effects, look_of, Bounded}
+use Rattle.rules.specs.Look.{Effects, look_of, Bounded, Look}
 use Rattle.rules.specs.Walk.{Outcome, stop, go, put}
 use Rattle.rules.proofs.Bound.{look_bounded}
 use Rattle.rules.proofs.Counting.{count_room, count_set}
 use Rattle.rules.proofs.Queue.{put_new, put_same, put_clash}
 use Rattle.stack.specs.declared.walk.Meeting.{Meeting}
-use Rattle.stack.specs.declared.walk.Put.{Put}
 use Rattle.stack.specs.declared.walk.Turn.{Turn}
-use Rattle.stack.specs.Columns.{meet_of, Ready, Puts, Turns, turn_of, Fitting}
+use Rattle.stack.specs.Columns.{meet_of, Ready, Puts, Turns, Fitting, Put}
 
 -- what each meeting says of the depth on record, and of the definition
-abbrev Says : List ℕ → List ℕ → ℕ → ℕ → Meeting → Type 0
-Says d q to out Meeting.New = get_or d to 0 ≡ 0
-Says d q to out Meeting.Same = get_or d to 0 ≡ out + 1
-Says d q to out (Meeting.Clash v) = put d q to out ≡ stop v
+abbrev Says : List ℕ → List ℕ → ℕ → ℕ → Result Meeting Violation → Type 0
+Says d q to out (Ok Meeting.New) = get_or d to 0 ≡ 0
+Says d q to out (Ok Meeting.Same) = get_or d to 0 ≡ out + 1
+Says d q to out (Err v) = put d q to out ≡ stop v
 
 says_by : (d q : List ℕ) (to out : ℕ) (b1 b2 : Bool) → eqb (get_or d to 0) 0 ≡ b1 → eqb (get_or d to 0) (out + 1) ≡ b2
-    → Says d q to out (cond b1 Meeting.New (cond b2 Meeting.Same (Meeting.Clash (Violation.MergeConflict to (get_or d to 0 - 1) out))))
+    → Says d q to out (cond b1 (Ok Meeting.New) (cond b2 (Ok Meeting.Same) (Err (Violation.MergeConflict to (get_or d to 0 - 1) out))))
 says_by d q to out true b2 e1 e2 = eqb-true (get_or d to 0) 0 e1
 says_by d q to out false true e1 e2 = eqb-true (get_or d to 0) (out + 1) e2
 says_by d q to out false false e1 e2 = put_clash d q to out (eqb-false (get_or d to 0) 0 e1) (eqb-false (get_or d to 0) (out + 1) e2)
 
-pub says : (d q : List ℕ) (to out : ℕ) (m : Meeting) → m ≡ meet_of d to out → Says d q to out m
+pub says : (d q : List ℕ) (to out : ℕ) (m : Result Meeting Violation) → m ≡ meet_of d to out → Says d q to out m
 unfolding meet_of
 says d q to out m e = rw e (says_by d q to out (eqb (get_or d to 0) 0) (eqb (get_or d to 0) (out + 1)) refl refl)
 
@@ -50,38 +50,37 @@ module _ (d q : List ℕ) (tail to out : ℕ) (ready : Ready d q tail) (within :
       let n = length-set d to (out + 1) in
       record { small = omega (arith, ready); room = omega (arith, ready); counted = omega (arith, ready) }
 
-  pub put_joins : get_or d to 0 ≡ 0 → Puts tail (Put.Go (tail + 1)) (set d to (out + 1)) (set q tail to) (put d (take tail q) to out)
+  pub put_joins : get_or d to 0 ≡ 0 → Puts tail (Ok (tail + 1)) (set d to (out + 1)) (set q tail to) (put d (take tail q) to out)
   put_joins e =
       let t : take (tail + 1) (set q tail to) ≡ take tail q ++ (to ∷ []) = ap (λ (n : ℕ). take n (set q tail to)) (add-one tail) ∙ take-suc-set q tail to (room e) in
       let r = ready_on e in
       let n = length-set q tail to in
       (put_new d (take tail q) to out e ∙ ap (go (set d to (out + 1))) (sym t), (record { small = r.small; room = omega (arith, r); counted = r.counted }, omega arith))
 
-  pub put_stays : get_or d to 0 ≡ out + 1 → Puts tail (Put.Go tail) d q (put d (take tail q) to out)
+  pub put_stays : get_or d to 0 ≡ out + 1 → Puts tail (Ok tail) d q (put d (take tail q) to out)
   put_stays e = (put_same d (take tail q) to out e, (ready, omega arith))
 
   -- a single successor of an empty queue
-  pub put_on : out < 65536 → get_or d to 0 ≡ 0 → Turns true tail q (Turn.On to out) (set d to (out + 1)) q (put d (take tail q) to out)
+  pub put_on : out < 65536 → get_or d to 0 ≡ 0 → Turns true tail q (Ok (Turn.On to out)) (set d to (out + 1)) q (put d (take tail q) to out)
   put_on small e =
       let r = ready_on e in
       (refl, (put_new d (take tail q) to out e, (refl, (get_or-set_same d to (out + 1) 0 within, (small, record { small = r.small; room = r.room; counted = omega (arith, r) })))))
 
 -- a put as a turn
-pub turn_puts : (alone : Bool) (tail : ℕ) (first : List ℕ) (done : Put) (d q : List ℕ) (o : Outcome) → Puts tail done d q o → Turns alone tail first (turn_of done) d q o
-turn_puts alone tail first (Put.Stop v) d q o e = e
-turn_puts alone tail first (Put.Go end) d q o e = e
+pub turn_puts : (alone : Bool) (tail : ℕ) (first : List ℕ) (end : ℕ) (d q : List ℕ) (o : Outcome) → Puts tail (Ok end) d q o → Turns alone tail first (Ok (Turn.Go end)) d q o
+turn_puts alone tail first end d q o e = e
 
 -- two puts, one after the other
 pub then_puts : (tail end : ℕ) (done : Put) (d q : List ℕ) (o : Outcome) → tail ≤ end → Puts end done d q o → Puts tail done d q o
-then_puts tail end (Put.Stop v) d q o l e = e
-then_puts tail end (Put.Go k) d q o l e = (e.0, (e.1.0, omega (arith, e.1.1)))
+then_puts tail end (Err v) d q o l e = e
+then_puts tail end (Ok k) d q o l e = (e.0, (e.1.0, omega (arith, e.1.1)))
 
 -- a wider bound on depths
 bounded_le : (n x y : ℕ) (seen : Look) → x ≤ y → Bounded n x seen → Bounded n y seen
-bounded_le n x y (Look.Bad v) l h = tt
-bounded_le n x y Look.Leaves l h = tt
-bounded_le n x y (Look.Goes out to) l h = (h.0, omega arith)
-bounded_le n x y (Look.Forks out to next) l h = (h.0, (h.1.0, omega arith))
+bounded_le n x y (Err v) l h = tt
+bounded_le n x y (Ok Leaves) l h = tt
+bounded_le n x y (Ok (Goes out to)) l h = (h.0, omega arith)
+bounded_le n x y (Ok (Forks out to next)) l h = (h.0, (h.1.0, omega arith))
 
 -- what a look asks of the columns is there
 pub look_fits : (known : Effects) (marks body : List ℕ) (maximum offset depth n : ℕ) (seen : Look) → Fitting marks body → n ≡ length body + 1 → maximum ≤ 65535 → seen ≡ look_of known marks body maximum offset depth → Bounded n 65535 seen

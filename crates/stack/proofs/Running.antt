@@ -1,6 +1,7 @@
 -- A body's answer by how its decoding ends, the columns that its walk begins with, and the directory's rows one after the other.
 -- Assumes nothing.
-use Rattle.std.specs.Prelude.{Ok}
+use Rattle.stack.specs.declared.Fault.{Fault}
+use Rattle.std.specs.Prelude.{Ok, Err}
 use Prim.Native.Nat.{ℕ, suc, ◌+◌, ◌-◌, ◌≤◌, ◌<◌}
 use native.Mathlib.Omega.{arith}
 use mathlib.Core.Path.{◌≡◌, refl, ◌∙◌, ap, ap₂, sym}
@@ -11,12 +12,10 @@ use Rattle.cells.specs.Zeros.{zeros, zeros_are, length_zeros, any_zero}
 use Rattle.flow.specs.Walk.{walk_by, end_of, mark_all, marks_of, Decoded}
 use Rattle.flow.proofs.Next.{marks_fit, marks_are}
 use Rattle.rules.specs.declared.Violation.{Violation}
-use Rattle.rules.specs.declared.Walked.{Walked}
 use Rattle.rules.specs.Look.{Effects, look_of}
-use Rattle.rules.specs.Walk.{begun, walk_of}
+use Rattle.rules.specs.Walk.{begun, walk_of, Walked}
 use Rattle.rules.proofs.Counting.{begun_is}
 use Rattle.program.specs.Program.{Program, body_of, body_is}
-use Rattle.stack.specs.declared.Verdict.{Verdict}
 use Rattle.stack.specs.Columns.{Fitting, Cleared, Roomy}
 use Rattle.stack.specs.Stack.{on_decoded, body_answer, on_walked, functions_from, functions_answer}
 
@@ -87,7 +86,7 @@ module _ (sizes : ℕ → ℕ) (known : Effects) (p : Program) where
         let d = length_zeros depths (length depths₀) g.depths_zero in
         record { marks_room = omega (arith, r); depths_room = omega (arith, r); queue_room = omega (arith, r, g.queue_same); small = r.small }
 
-    pub going_end : length p.functions.ids ≤ row → Verdict.Accepted ≡ functions_answer sizes known p
+    pub going_end : length p.functions.ids ≤ row → Ok tt ≡ functions_answer sizes known p
     going_end h =
         let z : length p.functions.ids - row ≡ 0 = omega arith in
         sym (ap (λ (k : ℕ). functions_from sizes known p k row) z) ∙ g.goes_on
@@ -98,11 +97,11 @@ module _ (sizes : ℕ → ℕ) (known : Effects) (p : Program) where
           let z : length p.functions.ids - row ≡ suc (length p.functions.ids - (row + 1)) = omega arith in
           ap (λ (k : ℕ). functions_from sizes known p k row) z ∙ ap (λ (k : ℕ). on_walked (get_or p.functions.ids row 0) (row_answer row) (functions_from sizes known p (length p.functions.ids - (row + 1)) k)) (sym (add-one row))
 
-      pub going_stop : (v : Violation) (function : ℕ) → function ≡ get_or p.functions.ids row 0 → Walked.Violated v ≡ row_answer row → Verdict.Violated function v ≡ functions_answer sizes known p
+      pub going_stop : (v : Violation) (function : ℕ) → function ≡ get_or p.functions.ids row 0 → Err v ≡ row_answer row → Err (Fault.Violated function v) ≡ functions_answer sizes known p
       going_stop v function f e =
-          ap (λ (k : ℕ). Verdict.Violated k v) f ∙ ap (λ (w : Walked). on_walked (get_or p.functions.ids row 0) w (functions_from sizes known p (length p.functions.ids - (row + 1)) (row + 1))) e ∙ sym step ∙ g.goes_on
+          ap (λ (k : ℕ). Err (Fault.Violated k v)) f ∙ ap (λ (w : Walked). on_walked (get_or p.functions.ids row 0) w (functions_from sizes known p (length p.functions.ids - (row + 1)) (row + 1))) e ∙ sym step ∙ g.goes_on
 
-      pub going_more : (m d q : List ℕ) → m ≡ zeros (length marks) → d ≡ zeros (length depths) → length q ≡ length queue → Walked.Accepted ≡ row_answer row → Going sizes known p marks₀ depths₀ queue₀ m d q (row + 1)
+      pub going_more : (m d q : List ℕ) → m ≡ zeros (length marks) → d ≡ zeros (length depths) → length q ≡ length queue → Ok tt ≡ row_answer row → Going sizes known p marks₀ depths₀ queue₀ m d q (row + 1)
       going_more m d q em ed eq e =
           record {
             within = omega arith;

@@ -1,15 +1,15 @@
 -- The walk's loop over its columns, for any rules: the definition, run from the entry in hand and what is left of the queue, gives what it gives
 -- from the start. A law for each way that a turn can go.
 -- Assumes nothing.
+use Rattle.std.specs.Prelude.{Ok, Err}
+use Rattle.rules.specs.Look.{Look}
 use Prim.Native.Nat.{ℕ, ◌+◌, ◌-◌, ◌≤◌, ◌<◌}
 use native.Mathlib.Omega.{arith}
 use mathlib.Core.Path.{◌≡◌, refl, ◌∙◌, ap, sym}
 use mathlib.Core.Bool.{true}
 use mathlib.Core.List.{List, [], ◌∷◌, ◌++◌}
 use lib.ListN.{length, get_or, take, drop}
-use Rattle.rules.specs.declared.Look.{Look}
 use Rattle.rules.specs.declared.Violation.{Violation}
-use Rattle.rules.specs.declared.Walked.{Walked}
 use Rattle.rules.specs.Walk.{stop, go, follow, walk_from, begun, walk_of}
 use Rattle.rules.proofs.Counting.{count_le, length_begun, count_begun, begun_first}
 use Rattle.rules.proofs.Queue.{loop_stop, loop_go, loop_empty, loop_on, walk_over, walk_begun}
@@ -48,15 +48,15 @@ module _ (rule : ℕ → ℕ → Look) (n : ℕ) (first depths queue : List ℕ)
   room = let l = tail_in depths queue tail w.ready in omega arith
 
   -- no turn is left
-  pub walking_over : left ≡ 0 → Walked.Accepted ≡ walk_of rule n
+  pub walking_over : left ≡ 0 → Ok tt ≡ walk_of rule n
   walking_over z = sym (walk_over rule depths (offset ∷ drop head (take tail queue))) ∙ ap (λ (k : ℕ). walk_from rule k depths (offset ∷ drop head (take tail queue))) (sym z) ∙ w.goes_on
 
   module _ (more : 0 < left) (d q : List ℕ) where
-    pub walking_stop : (v : Violation) → follow depths (take tail queue) (rule offset depth) ≡ stop v → Walked.Violated v ≡ walk_of rule n
+    pub walking_stop : (v : Violation) → follow depths (take tail queue) (rule offset depth) ≡ stop v → Err v ≡ walk_of rule n
     walking_stop v e = sym (loop_stop rule depths queue offset depth head tail (rule offset depth) w.deep refl w.behind room left v more e) ∙ w.goes_on
 
-    module _ (end : ℕ) (long : length d ≡ length depths) (kept : length q ≡ length queue) (turn : Turns (true) tail queue (Turn.Go end) d q (follow depths (take tail queue) (rule offset depth))) where
-      pub walking_empty : end ≤ head → Walked.Accepted ≡ walk_of rule n
+    module _ (end : ℕ) (long : length d ≡ length depths) (kept : length q ≡ length queue) (turn : Turns (true) tail queue (Ok (Turn.Go end)) d q (follow depths (take tail queue) (rule offset depth))) where
+      pub walking_empty : end ≤ head → Ok tt ≡ walk_of rule n
       walking_empty h =
           let l = tail_in d q end turn.1.0 in
           sym (loop_empty rule depths queue offset depth head tail (rule offset depth) w.deep refl w.behind room left d q end more turn.0 h (omega arith)) ∙ w.goes_on
@@ -75,7 +75,7 @@ module _ (rule : ℕ → ℕ → Look) (n : ℕ) (first depths queue : List ℕ)
             goes_on = ap (λ (k : ℕ). walk_from rule (left - 1) d (k ∷ drop (head + 1) (take end q))) e ∙ sym g ∙ w.goes_on;
           }
 
-    pub walking_on : (to out : ℕ) → length d ≡ length depths → head ≡ tail → Turns true tail queue (Turn.On to out) d q (follow depths (take tail queue) (rule offset depth)) → Walking rule n first d q head tail to out (left - 1)
+    pub walking_on : (to out : ℕ) → length d ≡ length depths → head ≡ tail → Turns true tail queue (Ok (Turn.On to out)) d q (follow depths (take tail queue) (rule offset depth)) → Walking rule n first d q head tail to out (left - 1)
     walking_on to out long h turn =
         let t = turn.1 in
         let g = loop_on rule depths queue offset depth head tail (rule offset depth) w.deep refl w.behind room left d to more h (t.0 ∙ ap (λ (u : List ℕ). go d (take tail u ++ (to ∷ []))) t.1.0) in

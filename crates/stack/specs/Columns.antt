@@ -1,19 +1,18 @@
 -- The walk's lent columns: depths with 0 or one more than a depth, and a queue column of which the first `tail` cells have been joined. What the code
 -- does to them is what the definition does to its lists.
 -- Assumes nothing.
-use Rattle.std.specs.Prelude.{ℕ, ◌+◌, ◌-◌, ◌≤◌, ◌<◌, ◌≡◌, Bool, true, cond, List, [], ◌∷◌, ◌++◌, eqb, length, get_or, take}
+use Rattle.std.specs.Prelude.{ℕ, ◌+◌, ◌-◌, ◌≤◌, ◌<◌, ◌≡◌, Bool, true, cond, List, [], ◌∷◌, ◌++◌, eqb, length, get_or, take, Result, Ok, Err}
 use Rattle.cells.specs.Zeros.{zeros}
 use Rattle.rules.specs.declared.Violation.{Violation}
 use Rattle.rules.specs.Walk.{Outcome, stop, go, count}
 use Rattle.stack.specs.declared.walk.Meeting.{Meeting}
-use Rattle.stack.specs.declared.walk.Put.{Put}
 use Rattle.stack.specs.declared.walk.Turn.{Turn}
 
 -- how a successor stands to its depth
-unfoldable pub meet_of : List ℕ → ℕ → ℕ → Meeting
+unfoldable pub meet_of : List ℕ → ℕ → ℕ → Result Meeting Violation
 meet_of depths to out =
-    cond (eqb (get_or depths to 0) 0) Meeting.New
-    (cond (eqb (get_or depths to 0) (out + 1)) Meeting.Same (Meeting.Clash (Violation.MergeConflict to (get_or depths to 0 - 1) out)))
+    cond (eqb (get_or depths to 0) 0) (Ok Meeting.New)
+    (cond (eqb (get_or depths to 0) (out + 1)) (Ok Meeting.Same) (Err (Violation.MergeConflict to (get_or depths to 0 - 1) out)))
 
 -- fewer have joined the queue than have a depth, so it has room for each that gets one
 pub record Ready (depths queue : List ℕ) (tail : ℕ) : Type 0 where
@@ -21,20 +20,20 @@ pub record Ready (depths queue : List ℕ) (tail : ℕ) : Type 0 where
   pub room : length depths ≤ length queue
   pub counted : tail < count depths
 
+-- what putting a successor gives: a violation, or the queue's new end
+abbrev pub Put : Type 0
+Put = Result ℕ Violation
+
 -- putting a successor: `tail` cells were joined before it
 abbrev pub Puts : ℕ → Put → List ℕ → List ℕ → Outcome → Type 0
-Puts tail (Put.Stop v) depths queue o = o ≡ stop v
-Puts tail (Put.Go end) depths queue o = (o ≡ go depths (take end queue)) × (Ready depths queue end × (tail ≤ end))
-
-abbrev pub turn_of : Put → Turn
-turn_of (Put.Stop v) = Turn.Stop v
-turn_of (Put.Go end) = Turn.Go end
+Puts tail (Err v) depths queue o = o ≡ stop v
+Puts tail (Ok end) depths queue o = (o ≡ go depths (take end queue)) × (Ready depths queue end × (tail ≤ end))
 
 -- a turn; one that goes on at once, where nothing waits, leaves the queue as it was
-abbrev pub Turns : Bool → ℕ → List ℕ → Turn → List ℕ → List ℕ → Outcome → Type 0
-Turns alone tail first (Turn.Stop v) depths queue o = o ≡ stop v
-Turns alone tail first (Turn.Go end) depths queue o = (o ≡ go depths (take end queue)) × (Ready depths queue end × (tail ≤ end))
-Turns alone tail first (Turn.On to out) depths queue o =
+abbrev pub Turns : Bool → ℕ → List ℕ → Result Turn Violation → List ℕ → List ℕ → Outcome → Type 0
+Turns alone tail first (Err v) depths queue o = o ≡ stop v
+Turns alone tail first (Ok (Turn.Go end)) depths queue o = (o ≡ go depths (take end queue)) × (Ready depths queue end × (tail ≤ end))
+Turns alone tail first (Ok (Turn.On to out)) depths queue o =
     (alone ≡ true) × ((o ≡ go depths (take tail queue ++ (to ∷ []))) × ((queue ≡ first) × ((get_or depths to 0 ≡ out + 1) × ((out < 65536) × Ready depths queue tail))))
 
 -- marks that fit their body: no instruction ends past it

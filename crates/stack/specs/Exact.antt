@@ -3,10 +3,10 @@
 -- Assumes nothing.
 use Rattle.std.specs.Prelude.{ℕ, ◌<◌, ◌≡◌, List, length, get_or, Ok}
 use Rattle.tables.specs.Set.{size_of, move_of}
-use Rattle.flow.specs.Walk.{walk_by, end_of, marks_of, Decoded}
+use Rattle.flow.specs.Walk.{walk_by, end_of, marks_of}
 use Rattle.program.specs.declared.Room.{Room}
 use Rattle.program.specs.Program.{Program, body_of}
-use Rattle.program.specs.Refusals.{stack_input, Input}
+use Rattle.program.specs.Refusals.{stack_input}
 use Rattle.rules.specs.Look.{Effects, look_of}
 use Rattle.rules.specs.Assigned.{Satisfies}
 use Rattle.effects.specs.Effects.{known_of}

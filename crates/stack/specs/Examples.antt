@@ -1,7 +1,7 @@
 -- 01's bench examples, in a single table under a single statement: function 1, no parameters, no list rows.
 -- Assumes nothing.
 use Rattle.std.specs.Prelude.{ℕ, zero, suc, ◌+◌, ◌*◌, ◌≡◌, refl, List, [], ◌∷◌, length}
-use Rattle.cells.specs.Zeros.{copies, zeros}
+use Rattle.cells.specs.Zeros.{copies}
 use Rattle.tables.specs.Set.{size_of, move_of, instruction_set}
 use Rattle.flow.specs.Decode.{step_by, operands_at, word_at, flow_of, moved, target_of}
 use Rattle.flow.specs.Walk.{walk_by, marks_of}

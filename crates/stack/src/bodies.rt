@@ -1,55 +1,36 @@
 // The bodies of a program, one after the other, over scratch that is zero before each and after each.
 ghost use Rattle.std.specs.Prelude.{◌≡◌, ◌+◌, ◌≤◌, length};
 ghost use Rattle.cells.specs.Zeros.{zeros};
-ghost use Rattle.tables.specs.Packed.{size_in, move_in};
+ghost use Rattle.tables.specs.Packed.{size_in};
 ghost use Rattle.tables.specs.Stored.{GoesOn};
-ghost use Rattle.program.specs.Program.{list_of, functions_of, program_of};
-ghost use Rattle.effects.specs.Effects.{directory_of, known_by};
+ghost use Rattle.program.specs.Stated.{program_in};
+ghost use Rattle.effects.specs.Stated.{known_in};
 ghost use Rattle.stack.specs.Columns.{Cleared, Roomy};
 ghost use Rattle.stack.specs.Stack.{body_answer, functions_answer};
 
-use crate::Verdict;
+use crate::Fault;
 use crate::walk::walk;
-use flow::starts::Decoded;
-use rules::{Violation, Walked};
+use effects::Sources;
+use rules::Violation;
 
 // Both phases, over scratch of the body's size.
+#[tactic(auto, unfolding(crate::specs::Stack::body_answer))]
 fn run(
     marks: &mut [u8],
     depths: &mut [u32],
     queue: &mut [u16],
     sizes: &[u8; 256],
-    words: &[u16; 256],
+    sources: &Sources<'_>,
     body: &[u8],
-    hints: &[u16],
-    list_ids: &[u16],
-    counts: &[u16],
-    flags: &[u16],
-    ids: &[u16],
-    parameters: &[u16],
-    given: &[u8],
     maximum: u16,
-) -> Walked
+) -> Result<(), Violation>
     requires marks_value { (marks.old ≡ zeros (length body.now)) × ((depths.old ≡ zeros (length body.now + 1)) × ((length body.now + 1 ≤ length queue.old) × (length body.now ≤ 65535))) }
-    requires goes_on { GoesOn words.now }
-    ensures { result ≡ body_answer (size_in sizes.now) (known_by (move_in words.now) hints.now (list_of list_ids.now counts.now flags.now) (directory_of ids.now parameters.now given.now)) body.now maximum }
+    requires goes_on { GoesOn sources.now.words.now }
+    ensures { result ≡ body_answer (size_in sizes.now) (known_in sources.now) body.now maximum }
 {
-    let decoded = flow::starts::mark_starts(marks, sizes, body);
-    match decoded {
-        Decoded::Unknown(offset, byte) => {
-            Walked::Violated(Violation::UnknownOpcode { offset, byte })
-        }
-        Decoded::Truncated(offset, opcode) => {
-            Walked::Violated(Violation::TruncatedInstruction { offset, opcode })
-        }
-        Decoded::Whole => {
-            depths[0] = 1;
-            walk(
-                depths, queue, words, marks, body, hints, list_ids, counts, flags, ids, parameters,
-                given, maximum,
-            )
-        }
-    }
+    flow::starts::mark_starts(marks, sizes, body)?;
+    depths[0] = 1;
+    walk(depths, queue, sources, marks, body, maximum)
 }
 
 // One body, over the front of the scratch. What it used is cleared; the queue holds anything.
@@ -58,20 +39,13 @@ fn one(
     depths: &mut [u32],
     queue: &mut [u16],
     sizes: &[u8; 256],
-    words: &[u16; 256],
+    sources: &Sources<'_>,
     body: &[u8],
-    hints: &[u16],
-    list_ids: &[u16],
-    counts: &[u16],
-    flags: &[u16],
-    ids: &[u16],
-    parameters: &[u16],
-    given: &[u8],
     maximum: u16,
-) -> Walked
+) -> Result<(), Violation>
     requires cleared { Cleared marks.old depths.old × Roomy (length body.now) marks.old depths.old queue.old }
-    requires goes_on { GoesOn words.now }
-    ensures { (result ≡ body_answer (size_in sizes.now) (known_by (move_in words.now) hints.now (list_of list_ids.now counts.now flags.now) (directory_of ids.now parameters.now given.now)) body.now maximum) × ((marks.new ≡ zeros (length marks.old)) × (depths.new ≡ zeros (length depths.old))) }
+    requires goes_on { GoesOn sources.now.words.now }
+    ensures { (result ≡ body_answer (size_in sizes.now) (known_in sources.now) body.now maximum) × ((marks.new ≡ zeros (length marks.old)) × (depths.new ≡ zeros (length depths.old))) }
 {
     let n = body.len();
     let e = n + 1;
@@ -80,15 +54,8 @@ fn one(
         &mut depths[..e],
         queue,
         sizes,
-        words,
+        sources,
         body,
-        hints,
-        list_ids,
-        counts,
-        flags,
-        ids,
-        parameters,
-        given,
         maximum,
     );
     cells::clear(&mut marks[..n]);
@@ -102,55 +69,26 @@ pub(crate) fn all(
     depths: &mut [u32],
     queue: &mut [u16],
     sizes: &[u8; 256],
-    words: &[u16; 256],
-    ids: &[u16],
-    parameters: &[u16],
-    maxima: &[u16],
-    offsets: &[usize],
-    lengths: &[usize],
-    hints: &[u16],
-    list_ids: &[u16],
-    counts: &[u16],
-    flags: &[u16],
-    code: &[u8],
-    given: &[u8],
-) -> Verdict
-    requires cleared { Cleared marks.old depths.old × Roomy (length code.now) marks.old depths.old queue.old }
-    requires goes_on { GoesOn words.now }
-    ensures { (result ≡ functions_answer (size_in sizes.now) (known_by (move_in words.now) hints.now (list_of list_ids.now counts.now flags.now) (directory_of ids.now parameters.now given.now)) (program_of (functions_of ids.now parameters.now maxima.now offsets.now lengths.now) (list_of list_ids.now counts.now flags.now) code.now)) × ((marks.new ≡ zeros (length marks.old)) × (depths.new ≡ zeros (length depths.old))) }
+    sources: &Sources<'_>,
+) -> Result<(), Fault>
+    requires cleared { Cleared marks.old depths.old × Roomy (length sources.now.program.code.now) marks.old depths.old queue.old }
+    requires goes_on { GoesOn sources.now.words.now }
+    ensures { (result ≡ functions_answer (size_in sizes.now) (known_in sources.now) (program_in sources.now.program)) × ((marks.new ≡ zeros (length marks.old)) × (depths.new ≡ zeros (length depths.old))) }
 {
-    let mut row: usize = 0;
-    while row < ids.len() {
+    let functions = &sources.program.functions;
+    for row in 0..functions.ids.len() {
         let body = cells::part(
-            code,
-            cells::at(offsets, row),
-            cells::at(lengths, row),
+            sources.program.code,
+            cells::at(functions.offsets, row),
+            cells::at(functions.lengths, row),
         );
-        let walked = one(
-            marks,
-            depths,
-            queue,
-            sizes,
-            words,
-            body,
-            hints,
-            list_ids,
-            counts,
-            flags,
-            ids,
-            parameters,
-            given,
-            cells::at(maxima, row),
-        );
-        match walked {
-            Walked::Accepted => row += 1,
-            Walked::Violated(violation) => {
-                return Verdict::Violated {
-                    function: cells::at(ids, row),
-                    violation,
-                };
-            }
+        let maximum = cells::at(functions.maxima, row);
+        if let Err(violation) = one(marks, depths, queue, sizes, sources, body, maximum) {
+            return Err(Fault::Violated {
+                function: functions.ids[row],
+                violation,
+            });
         }
     }
-    Verdict::Accepted
+    Ok(())
 }

@@ -1,35 +1,15 @@
 // 01's rules at one place, as code: one caller, the walk. The definition is rules' `look_of`.
 ghost use Rattle.std.specs.Prelude.{◌≡◌, ℕ, ◌≤◌, ◌<◌, length};
-ghost use Rattle.tables.specs.Packed.{move_in};
 ghost use Rattle.tables.specs.Stored.{GoesOn};
 ghost use Rattle.flow.specs.Decode.{flow_of, moved, target_of};
-ghost use Rattle.program.specs.Program.{list_of};
-ghost use Rattle.rules.specs.Look.{larger, exit_at, on_target, flowing, moving, look_of};
-ghost use Rattle.effects.specs.Effects.{directory_of, known_by};
-ghost use Rattle.stack.specs.Moves.{on_moved};
+ghost use Rattle.rules.specs.Look.{Look, larger, exit_at, unknown_at, flowing, moving, look_of};
+ghost use Rattle.effects.specs.Stated.{known_in};
+ghost use Rattle.stack.specs.Moves.{effect_at, on_moved, legal_of};
 
-use flow::{Flow, Target};
-use rules::{Known, Look, Violation};
+use effects::Sources;
+use flow::Flow;
+use rules::{Onward, Unknown, Violation};
 use tables::Effect;
-
-// What an effect makes of a depth.
-#[derive(Drop)]
-pub enum Moved {
-    Stop(Violation),
-    Out(u64),
-}
-
-fn wide8(x: u8) -> usize
-    ensures { (result ≡ x) × (result < 256) }
-{
-    x as usize
-}
-
-fn wide16(x: u16) -> u64
-    ensures { (result ≡ x) × (result < 65536) }
-{
-    x as u64
-}
 
 fn larger_of(a: u64, b: u64) -> u64
     ensures { result ≡ larger a b }
@@ -37,41 +17,70 @@ fn larger_of(a: u64, b: u64) -> u64
     if a < b { b } else { a }
 }
 
-// 5 and 6.
-fn moved_by(offset: usize, op: u8, maximum: u16, depth: u64, effect: Effect) -> Moved
+fn unknown_at(offset: usize, unknown: Unknown) -> Violation
+    ensures { result ≡ unknown_at offset unknown }
+{
+    match unknown {
+        Unknown::Builtin(id) => Violation::UnknownBuiltin { offset, id },
+        Unknown::Callee(callee) => Violation::UnknownCallee { offset, callee },
+    }
+}
+
+// 3 and 4, or the effect of an instruction.
+fn effect_at(
+    sources: &Sources<'_>,
+    offset: usize,
+    op: u8,
+    operands: &[u8],
+) -> Result<Effect, Violation>
+    ensures { result ≡ effect_at offset (known_in sources.now op operands.now) }
+{
+    let known = sources.effect_of(op, operands);
+    known.map_err(|unknown| unknown_at(offset, unknown))
+}
+
+// 5 and 6, or the depth that an effect makes of a depth.
+#[tactic(auto, unfolding(rules::specs::Look::moving))]
+fn moved_by(
+    offset: usize,
+    op: u8,
+    maximum: u16,
+    depth: u64,
+    effect: Effect,
+) -> Result<u64, Violation>
     requires { depth < 4294967296 }
     ensures { (go : ℕ → Look) → moving offset op maximum depth effect go ≡ on_moved go result }
 {
     let needs = effect.takes;
-    let takes = wide16(needs);
+    let takes = u64::from(needs);
     if depth < takes {
-        return Moved::Stop(Violation::Underflow {
+        return Err(Violation::Underflow {
             offset,
             opcode: op,
             needs,
             has: depth,
         });
     }
-    let out = depth - takes + wide16(effect.leaves);
+    let out = depth - takes + u64::from(effect.leaves);
     let peak = larger_of(depth, out);
-    if wide16(maximum) < peak {
-        return Moved::Stop(Violation::ExceedsDeclaredMax {
+    if u64::from(maximum) < peak {
+        return Err(Violation::ExceedsDeclaredMax {
             offset,
             depth: peak,
             declared: maximum,
         });
     }
-    Moved::Out(out)
+    Ok(out)
 }
 
 // 9.
-fn exit_at(offset: usize, expected: u64, depth: u64) -> Look
+fn exit_at(offset: usize, expected: u64, depth: u64) -> Result<Onward, Violation>
     ensures { result ≡ exit_at offset expected depth }
 {
     if depth == expected {
-        Look::Leaves
+        Ok(Onward::Leaves)
     } else {
-        Look::Bad(Violation::UnbalancedReturn {
+        Err(Violation::UnbalancedReturn {
             offset,
             expected,
             actual: depth,
@@ -79,33 +88,24 @@ fn exit_at(offset: usize, expected: u64, depth: u64) -> Look
     }
 }
 
-// 7, and the target alone.
-fn jump_to(offset: usize, out: u64, target: Target) -> Look
-    ensures { result ≡ on_target offset (λ to. Look.Goes out to) target }
+// 7, or a branch's target.
+fn legal_target(
+    marks: &[u8],
+    end: usize,
+    offset: usize,
+    next: usize,
+    word: u16,
+) -> Result<usize, Violation>
+    ensures { result ≡ legal_of offset (target_of marks.now end (moved next word)) }
 {
-    match target {
-        Target::Legal(to) => Look::Goes { out, to },
-        Target::Illegal(spot) => Look::Bad(Violation::InvalidJumpTarget {
-            offset,
-            target: spot,
-        }),
-    }
+    flow::branch_target(marks, end, next, word).map_err(|target| Violation::InvalidJumpTarget {
+        offset,
+        target,
+    })
 }
 
-// 7, and the target before the next instruction.
-fn fork_to(offset: usize, next: usize, out: u64, target: Target) -> Look
-    ensures { result ≡ on_target offset (λ to. Look.Forks out to next) target }
-{
-    match target {
-        Target::Legal(to) => Look::Forks { out, to, next },
-        Target::Illegal(spot) => Look::Bad(Violation::InvalidJumpTarget {
-            offset,
-            target: spot,
-        }),
-    }
-}
-
-// Where control goes, at the depth after.
+// Where control goes, at the depth after: a branch's target before the next instruction.
+#[tactic(auto, unfolding(rules::specs::Look::flowing))]
 fn flows(
     marks: &[u8],
     operands: &[u8],
@@ -114,117 +114,49 @@ fn flows(
     next: usize,
     op: u8,
     out: u64,
-) -> Look
+) -> Result<Onward, Violation>
     ensures { result ≡ flowing marks.now end offset next op out (flow_of op operands.now) }
 {
-    let way = flow::flow_of(op, operands);
-    match way {
-        Flow::Next => Look::Goes { out, to: next },
-        Flow::Jump(word) => jump_to(offset, out, flow::branch_target(marks, end, next, word)),
+    match flow::flow_of(op, operands) {
+        Flow::Next => Ok(Onward::Goes { out, to: next }),
+        Flow::Jump(word) => {
+            let to = legal_target(marks, end, offset, next, word)?;
+            Ok(Onward::Goes { out, to })
+        }
         Flow::Branch(word) => {
-            fork_to(
-                offset,
-                next,
-                out,
-                flow::branch_target(marks, end, next, word),
-            )
+            let to = legal_target(marks, end, offset, next, word)?;
+            Ok(Onward::Forks { out, to, next })
         }
-        Flow::Return => {
-            if op == 0x88 {
-                return exit_at(offset, 1, out);
-            }
-            exit_at(offset, 0, out)
-        }
+        Flow::Return => exit_at(offset, u64::from(op == tables::RET), out),
     }
 }
 
-// An instruction whose effect is the table's and which goes on to the next.
-fn plain(offset: usize, next: usize, op: u8, maximum: u16, depth: u64, effect: Effect) -> Look
-    requires { depth < 4294967296 }
-    ensures { result ≡ moving offset op maximum depth effect (λ out. Look.Goes out next) }
-{
-    let moved = moved_by(offset, op, maximum, depth, effect);
-    match moved {
-        Moved::Stop(violation) => Look::Bad(violation),
-        Moved::Out(out) => Look::Goes { out, to: next },
-    }
-}
-
-// Any other instruction, whose effect is known.
-fn turning(
-    marks: &[u8],
-    operands: &[u8],
-    end: usize,
-    offset: usize,
-    next: usize,
-    op: u8,
-    maximum: u16,
-    depth: u64,
-    effect: Effect,
-) -> Look
-    requires { depth < 4294967296 }
-    ensures { result ≡ moving offset op maximum depth effect (λ out. flowing marks.now end offset next op out (flow_of op operands.now)) }
-{
-    let moved = moved_by(offset, op, maximum, depth, effect);
-    match moved {
-        Moved::Stop(violation) => Look::Bad(violation),
-        Moved::Out(out) => flows(marks, operands, end, offset, next, op, out),
-    }
-}
-
-// The rules at an offset of the body at a depth.
+// The rules at an offset of the body at a depth. Most instructions have the table's effect and go on to the next: they are told apart first.
 pub(crate) fn look(
-    words: &[u16; 256],
+    sources: &Sources<'_>,
     marks: &[u8],
     body: &[u8],
-    hints: &[u16],
-    list_ids: &[u16],
-    counts: &[u16],
-    flags: &[u16],
-    ids: &[u16],
-    parameters: &[u16],
-    given: &[u8],
     maximum: u16,
     offset: usize,
     depth: u64,
-) -> Look
-    requires goes_on { GoesOn words.now }
+) -> Result<Onward, Violation>
+    requires goes_on { GoesOn sources.now.words.now }
     requires body_len_bound { (length body.now ≤ 65535) × (depth < 4294967296) }
-    ensures { result ≡ look_of (known_by (move_in words.now) hints.now (list_of list_ids.now counts.now flags.now) (directory_of ids.now parameters.now given.now)) marks.now body.now maximum offset depth }
+    ensures { result ≡ look_of (known_in sources.now) marks.now body.now maximum offset depth }
 {
     if body.len() <= offset {
         return exit_at(offset, 0, depth);
     }
     let op = body[offset];
     let size = cells::at(marks, offset);
-    let next = offset + wide8(size);
-    if tables::plain_in(words, op) {
-        return plain(
-            offset,
-            next,
-            op,
-            maximum,
-            depth,
-            tables::effect_in(words, op),
-        );
+    let next = offset + usize::from(size);
+    if tables::plain_in(sources.words, op) {
+        let effect = tables::effect_in(sources.words, op);
+        let out = moved_by(offset, op, maximum, depth, effect)?;
+        return Ok(Onward::Goes { out, to: next });
     }
     let operands = flow::operands_of(body, offset, size);
-    let known = effects::effect_of(
-        words, hints, list_ids, counts, flags, ids, parameters, given, op, operands,
-    );
-    match known {
-        Known::Moves(effect) => turning(
-            marks,
-            operands,
-            body.len(),
-            offset,
-            next,
-            op,
-            maximum,
-            depth,
-            effect,
-        ),
-        Known::UnknownBuiltin(id) => Look::Bad(Violation::UnknownBuiltin { offset, id }),
-        Known::UnknownCallee(callee) => Look::Bad(Violation::UnknownCallee { offset, callee }),
-    }
+    let effect = effect_at(sources, offset, op, operands)?;
+    let out = moved_by(offset, op, maximum, depth, effect)?;
+    flows(marks, operands, body.len(), offset, next, op, out)
 }
