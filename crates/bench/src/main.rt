@@ -2,8 +2,6 @@
 // (01, "Bench file, program and C entry"). More than 65,537 bytes are never read: that many are already too many.
 #![tactic(auto)]
 
-ghost use Rattle.std.specs.Prelude.{◌≤◌, length};
-
 use desk::Checked;
 use file::Refused;
 use std::io;
@@ -19,25 +17,6 @@ fn print_answer(rt: &impl Print, answer: Result<Checked, Refused>) -> io::Result
     }
 }
 
-// Reads until the buffer is full, the input ends or a read fails, and says how many bytes it put at the front.
-fn read_full<R: Read>(input: &mut R, bytes: &mut [u8]) -> usize
-    ensures { result ≤ length bytes.new }
-{
-    let mut done = 0;
-    while done < bytes.len() {
-        match input.read(&mut bytes[done..]) {
-            Ok(n) => {
-                if n == 0 {
-                    break;
-                }
-                done += n;
-            }
-            Err(_) => break,
-        }
-    }
-    done
-}
-
 // `read_full` stops at the end and at an error alike: only at the end does a further read answer 0.
 fn at_end<R: Read>(input: &mut R) -> bool {
     let mut more = [0u8; 1];
@@ -49,7 +28,7 @@ fn at_end<R: Read>(input: &mut R) -> bool {
 
 fn main(rt: HostRuntime) -> io::Result<()> {
     let mut bytes = [0u8; 65537];
-    let n = read_full(&mut rt.stdin(), &mut bytes);
+    let n = input::read_full(&mut rt.stdin(), &mut bytes);
     if n < 65537 {
         if !at_end(&mut rt.stdin()) {
             eprintln!(rt; "bench: standard input could not be read")?;

@@ -8,43 +8,41 @@ use mathlib.Core.List.{List}
 use lib.ListN.{length, take, drop, replicate, length-append, length-replicate}
 use lib.Seq.{take_at}
 use Rattle.program.specs.Program.{PoolProgram, list_of, functions_of, program_of, descriptors_of, pool_program_of}
-use Rattle.program.specs.Refusals.{input_number, input_place, is_taken, room_of, pool_input, Input}
+use Rattle.program.specs.declared.Refusal.{Refusal}
+use Rattle.program.specs.declared.Room.{Room}
+use Rattle.program.specs.Refusals.{refusal_number, refusal_place, pool_input, Input}
 use Rattle.file.specs.declared.Sizes.{Sizes}
-use Rattle.file.specs.declared.Reading.{Reading}
-use Rattle.file.specs.declared.Reading.TheVariants.{At, Stopped}
-use Rattle.file.specs.declared.Outcome.{Outcome}
-use Rattle.file.specs.declared.Outcome.TheVariants.{Read, Refused}
+use Rattle.file.specs.declared.Refused.{Refused}
+use Rattle.file.specs.declared.Layout.{Layout}
 use Rattle.file.specs.Columns.{over, column_at}
 use Rattle.file.specs.Tables.{layout_of}
 use Rattle.file.specs.Transposed.{column_length}
 use Rattle.file.specs.Stated as stated
 use Rattle.file.specs.Stated.{Columns, Bench, Stated, states, refuses, bench_of, tables_in, stated_by, short_room, below, read_into, outcome_of, sizes_of, leaves, laid_over}
 use Rattle.answers.specs.declared.Fields.{Fields}
-use Rattle.stack.specs.declared.Verdict as stack-verdict
-use Rattle.pool.specs.declared.Verdict as pool-verdict
 use Rattle.stack.specs.Stack as stack
 use Rattle.pool.specs.Pool as pool
-use Rattle.desk.specs.declared.Answer.{Answer}
-use Rattle.desk.specs.declared.Answer.TheVariants as A
-use Rattle.desk.specs.Desk.{full_room, both_of, on_input, program_answer, program_in, answer_to, desk_answer}
+use Rattle.desk.specs.declared.Checked.{Checked}
+use Rattle.std.specs.Prelude.{Result, Ok, Err}
+use Rattle.desk.specs.Desk.{Answer, fronts_of, full_room, both_of, on_input, program_answer, program_in, answer_to, desk_answer}
 
 -- both calls' answers over scratch of the full size
-pub both : (q : PoolProgram) {x y : Fields} {u : stack-verdict.Verdict} {v : pool-verdict.Verdict} {m d k e m' d' k' e' n : ℕ} →
-    x ≡ stack.fields_of u → y ≡ pool.fields_of v → u ≡ stack.stack_answer q.program (room_of m d k e) → v ≡ pool.pool_answer q (room_of m' d' k' e') n →
-    m ≡ 12288 → d ≡ 12289 → k ≡ 24578 → e ≡ 24578 → m' ≡ 12288 → d' ≡ 12289 → k' ≡ 24578 → e' ≡ 24578 → n ≡ 16384 → A.Checked x y ≡ both_of q
-unfolding both_of full_room
-both q hx hy hu hv hm hd hk he hm' hd' hk' he' hn = rw (hx, hy, hu, hv, hm, hd, hk, he, hm', hd', hk', he', hn)
+pub both : (q : PoolProgram) {x y : Fields} {u : stack.Verdict} {v : pool.Verdict} {r r' : Room} {n : ℕ} →
+    x ≡ stack.fields_of u → y ≡ pool.fields_of v → u ≡ stack.stack_answer q.program r → v ≡ pool.pool_answer q r' n →
+    r ≡ full_room → r' ≡ full_room → n ≡ 16384 → ◌≡◌ {A = Checked} (record { stack = x; pool = y }) (both_of q)
+unfolding both_of
+both q hx hy hu hv hr hr' hn = rw (hx, hy, hu, hv, hr, hr', hn)
 
 -- an input that is taken, and one that is not
-pub taken : (q : PoolProgram) {input : Input} {test : Bool} {r : Answer} → input ≡ pool_input q (room_of 12288 12289 24578 24578) 16384 → test ≡ is_taken input →
-    test ≡ true → r ≡ both_of q → r ≡ program_answer q
-unfolding program_answer on_input full_room
-taken q i t e r = r ∙ rw (sym i, sym t, e)
+pub taken : (q : PoolProgram) {input : Input} {r : Checked} → input ≡ pool_input q full_room 16384 → input ≡ Ok tt → r ≡ both_of q →
+    ◌≡◌ {A = Answer} (Ok r) (program_answer q)
+unfolding program_answer on_input
+taken q i t e = rw (sym i ∙ t, e)
 
-pub stopped : (q : PoolProgram) {input : Input} {test : Bool} {number place : ℕ} → input ≡ pool_input q (room_of 12288 12289 24578 24578) 16384 → test ≡ is_taken input →
-    test ≡ false → number ≡ input_number input → place ≡ input_place input → A.Refused number place ≡ program_answer q
-unfolding program_answer on_input full_room
-stopped q i t e n p = rw (sym i, sym t, e, n, p)
+pub stopped : (q : PoolProgram) {input : Input} {refusal : Refusal} {number place : ℕ} → input ≡ pool_input q full_room 16384 → input ≡ Err refusal →
+    number ≡ refusal_number refusal → place ≡ refusal_place refusal → ◌≡◌ {A = Answer} (Err (record { number = number; place = place })) (program_answer q)
+unfolding program_answer on_input
+stopped q i t n p = rw (sym i ∙ t, n, p)
 
 -- local columns of 01's limits
 abbrev pub zero_columns : Columns
@@ -68,16 +66,14 @@ readable file =
     (length-replicate {A = ℕ} 32 0) (length-replicate {A = ℕ} 12288 0))
 
 -- a file that is refused
-refused_by : (s : Stated) {number place : ℕ} → outcome_of s ≡ Refused number place → A.Refused number place ≡ answer_to s
+refused_by : (s : Stated) (r : Refused) → outcome_of s ≡ Err r → ◌≡◌ {A = Answer} (Err r) (answer_to s)
 unfolding outcome_of answer_to
-refused_by (states p) e = absurd (let z : ◌≡◌ {A = ℕ} 0 1 = cc in omega arith)
-refused_by (refuses n k) {number} {place} e =
-    let a : n ≡ number = cc in let b : k ≡ place = cc in rw (a, b)
+refused_by (states p) r e = absurd (let z : ◌≡◌ {A = ℕ} 0 1 = cc in omega arith)
+refused_by (refuses n k) r e = sym e
 
-file_refused : (found : Stated) (file : List ℕ) {number place : ℕ} → found ≡ stated.stated file → outcome_of found ≡ Refused number place →
-    A.Refused number place ≡ desk_answer file
+file_refused : (found : Stated) (file : List ℕ) (r : Refused) → found ≡ stated.stated file → outcome_of found ≡ Err r → ◌≡◌ {A = Answer} (Err r) (desk_answer file)
 unfolding desk_answer
-file_refused found file e r = refused_by found r ∙ ap answer_to e
+file_refused found file r e o = refused_by found r o ∙ ap answer_to e
 
 -- the front of a column of cells is a table's column
 abbrev pub Front : ℕ → List ℕ → List ℕ → Type 0
@@ -104,19 +100,21 @@ pub record Fronts (p : Bench) (s : Sizes) (after : Columns) : Type 0 where
   pub entries : Front s.entries after.entries p.tables.entries
   pub code : Front s.code after.code p.tables.code
 
-read_by : (file : List ℕ) (r : Reading) (lent after : Columns) (s : Sizes) → outcome_of (stated_by file r) ≡ Read s → after ≡ leaves (stated_by file r) lent →
-    (sizes_of (bench_of file) ≡ s) × ((after ≡ laid_over (bench_of file).tables lent) × (program_answer (program_in (bench_of file)) ≡ answer_to (stated_by file r)))
+read_by : (file : List ℕ) (r : Result Layout Refused) (lent after : Columns) (s : Sizes) → outcome_of (stated_by file r) ≡ Ok s →
+    after ≡ leaves (stated_by file r) lent →
+    (layout : Layout) × ((sizes_of (bench_of file layout) ≡ s)
+    × ((after ≡ laid_over (bench_of file layout).tables lent) × (program_answer (program_in (bench_of file layout)) ≡ answer_to (stated_by file r))))
 unfolding outcome_of stated_by leaves answer_to
-read_by file (At end) lent after s e a = (cc, (a, refl))
-read_by file (Stopped n k) lent after s e a = absurd (let z : ◌≡◌ {A = ℕ} 0 1 = cc in omega arith)
+read_by file (Ok layout) lent after s e a = (layout, (cc, (a, refl)))
+read_by file (Err refused) lent after s e a = absurd (let z : ◌≡◌ {A = ℕ} 0 1 = cc in omega arith)
 
-fronts : (file : List ℕ) (lent after : Columns) (s : Sizes) → sizes_of (bench_of file) ≡ s → after ≡ laid_over (bench_of file).tables lent →
-    Fronts (bench_of file) s after
+fronts : (file : List ℕ) (layout : Layout) (lent after : Columns) (s : Sizes) → sizes_of (bench_of file layout) ≡ s →
+    after ≡ laid_over (bench_of file layout).tables lent → Fronts (bench_of file layout) s after
 unfolding sizes_of bench_of tables_in laid_over column_at
-fronts file lent after s z a =
-    let rows : (layout_of file).rows.count ≡ s.rows = sym (column_length 3 0 _ _) ∙ ap (λ (x : Sizes). x.rows) z in
-    let functions : (layout_of file).functions.count ≡ s.functions = sym (column_length 5 0 _ _) ∙ ap (λ (x : Sizes). x.functions) z in
-    let descriptors : (layout_of file).descriptors.count ≡ s.descriptors = sym (column_length 2 0 _ _) ∙ ap (λ (x : Sizes). x.descriptors) z in
+fronts file layout lent after s z a =
+    let rows : layout.rows.count ≡ s.rows = sym (column_length 3 0 _ _) ∙ ap (λ (x : Sizes). x.rows) z in
+    let functions : layout.functions.count ≡ s.functions = sym (column_length 5 0 _ _) ∙ ap (λ (x : Sizes). x.functions) z in
+    let descriptors : layout.descriptors.count ≡ s.descriptors = sym (column_length 2 0 _ _) ∙ ap (λ (x : Sizes). x.descriptors) z in
     record {
       pool = sym (ap (λ (x : Sizes). x.pool) z);
       list_ids = front_of _ lent.list_ids _ _ (column_length 3 0 _ _ ∙ rows) (ap (λ (x : Columns). x.list_ids) a);
@@ -133,40 +131,24 @@ fronts file lent after s z a =
       code = front_of _ lent.code _ _ (ap (λ (x : Sizes). x.code) z) (ap (λ (x : Columns). x.code) a);
     }
 
--- the columns lent to the checks are the fronts, as long as the file's counts
-abbrev pub lent_of : Sizes → Columns → PoolProgram
-lent_of s after =
-    pool_program_of
-    (program_of
-    (functions_of (take s.functions after.function_ids) (take s.functions after.parameters) (take s.functions after.maxima) (take s.functions after.offsets) (take s.functions after.lengths))
-    (list_of (take s.rows after.list_ids) (take s.rows after.list_counts) (take s.rows after.list_flags))
-    (take s.code after.code))
-    (descriptors_of (take s.descriptors after.type_ids) (take s.descriptors after.descriptor_functions))
-    (take s.entries after.entries)
-    s.pool
-
-answered : (p : Bench) (s : Sizes) (after : Columns) → Fronts p s after → program_answer (lent_of s after) ≡ program_answer (program_in p)
+answered : (p : Bench) (s : Sizes) (after : Columns) → Fronts p s after → program_answer (fronts_of s after) ≡ program_answer (program_in p)
 unfolding program_in
 answered p s after f =
     rw (f.pool, f.list_ids.1, f.list_counts.1, f.list_flags.1, f.function_ids.1, f.parameters.1, f.maxima.1, f.offsets.1, f.lengths.1, f.type_ids.1, f.descriptor_functions.1, f.entries.1, f.code.1)
 
 -- a file that is read
-file_read : (found : Stated) (file : List ℕ) (lent after : Columns) (s : Sizes) → found ≡ stated.stated file → outcome_of found ≡ Read s →
-    after ≡ leaves found lent → Fronts (bench_of file) s after × (program_answer (lent_of s after) ≡ desk_answer file)
+file_read : (found : Stated) (file : List ℕ) (lent after : Columns) (s : Sizes) → found ≡ stated.stated file → outcome_of found ≡ Ok s →
+    after ≡ leaves found lent → program_answer (fronts_of s after) ≡ desk_answer file
 unfolding desk_answer stated.stated
 file_read found file lent after s e r a =
-    let k = read_by file (layout_of file).end lent after s (ap outcome_of (sym e) ∙ r) (a ∙ ap (λ (x : Stated). leaves x lent) e) in
-    let f = fronts file lent after s k.0 k.1.0 in
-    (f, answered (bench_of file) s after f ∙ k.1.1)
+    let k = read_by file (layout_of file) lent after s (ap outcome_of (sym e) ∙ r) (a ∙ ap (λ (x : Stated). leaves x lent) e) in
+    answered (bench_of file k.0) s after (fronts file k.0 lent after s k.1.0 k.1.1.0) ∙ k.1.1.1
 
 -- what `file::read_file` promises of local columns
-abbrev pub Gave : List ℕ → Outcome → Columns → Type 0
-Gave file r after = (r ≡ outcome_of (read_into zero_columns file)) × (after ≡ leaves (read_into zero_columns file) zero_columns)
+module _ (file : List ℕ) (r : Result Sizes Refused) (found : r ≡ outcome_of (read_into zero_columns file)) where
+  pub gave_refusal : {refused : Refused} → r ≡ Err refused → ◌≡◌ {A = Answer} (Err refused) (desk_answer file)
+  gave_refusal {refused} e = file_refused (read_into zero_columns file) file refused (readable file) (sym found ∙ e)
 
-pub gave_refusal : (file : List ℕ) {r : Outcome} {after : Columns} {number place : ℕ} → Gave file r after → r ≡ Refused number place →
-    A.Refused number place ≡ desk_answer file
-gave_refusal file g e = file_refused (read_into zero_columns file) file (readable file) (sym g.0 ∙ e)
-
-pub gave_program : (file : List ℕ) {r : Outcome} (after : Columns) {s : Sizes} → Gave file r after → r ≡ Read s →
-    Fronts (bench_of file) s after × (program_answer (lent_of s after) ≡ desk_answer file)
-gave_program file after {s} g e = file_read (read_into zero_columns file) file zero_columns after s (readable file) (sym g.0 ∙ e) g.1
+  pub gave_program : (after : Columns) → after ≡ leaves (read_into zero_columns file) zero_columns → {s : Sizes} → r ≡ Ok s →
+      program_answer (fronts_of s after) ≡ desk_answer file
+  gave_program after left {s} e = file_read (read_into zero_columns file) file zero_columns after s (readable file) (sym found ∙ e) left

@@ -16,25 +16,6 @@ use std::rt::Files;
 use std::{fs, io};
 use tally::Tally;
 
-// Reads until the buffer is full, the input ends or a read fails, and says how many bytes it put at the front.
-fn read_full<R: Read>(input: &mut R, bytes: &mut [u8]) -> usize
-    ensures { result ≤ length bytes.new }
-{
-    let mut done = 0;
-    while done < bytes.len() {
-        match input.read(&mut bytes[done..]) {
-            Ok(n) => {
-                if n == 0 {
-                    break;
-                }
-                done += n;
-            }
-            Err(_) => break,
-        }
-    }
-    done
-}
-
 // How many bytes of the file it put at the front of the buffer; a file that does not open is named on standard error, and counts as empty.
 fn load(rt: &(impl Files + Eprint), path: &str, buffer: &mut [u8]) -> io::Result<usize>
     ensures { IfOk result (λ n. n ≤ length buffer.new) }
@@ -42,7 +23,7 @@ fn load(rt: &(impl Files + Eprint), path: &str, buffer: &mut [u8]) -> io::Result
     match fs::open(rt, path) {
         Ok(file) => {
             let mut file = file;
-            Ok(read_full(&mut file, buffer))
+            Ok(input::read_full(&mut file, buffer))
         }
         Err(e) => {
             eprintln!(rt; "{path}: {e}")?;
