@@ -11,9 +11,10 @@ use mathlib.Core.List.{List}
 use lib.ListN.{length}
 use Rattle.flow.specs.Walk.{walk_by, end_of, marks_of, Decoded}
 use Rattle.flow.proofs.Next.{body_fits}
-use Rattle.buffers.specs.declared.Used.{Used}
+use Rattle.buffers.specs.declared.Usage as told
+use Rattle.buffers.specs.declared.Unwalked.{Unwalked}
 use Rattle.buffers.specs.Tread.{Temps, Opens, tread_of}
-use Rattle.buffers.specs.Walk.{Usage, Walked, undecodable, crowded, unfinished, walked, walk_of, used_of}
+use Rattle.buffers.specs.Walk.{Usage, Walked, undecodable, crowded, unfinished, walked, walk_of, used_of, uses}
 use Rattle.buffers.proofs.Theorems.{turns_suffice}
 use Rattle.pool.specs.Pool.{on_decoded, body_walk}
 
@@ -67,19 +68,19 @@ module _ (sizes : ℕ → ℕ) (temps : Temps) (opens : Opens) (pool : ℕ) (bod
       turns_suffice temps opens (marks_of sizes body) body pool (2 * length body + 2) (body_fits sizes body) (decoded_unfinished (end_of (walk_by sizes body 0)) alone e)
 
 -- what a walk answers, back to its outcome
-pub used_walked : (w : Walked) (weight peak : ℕ) → used_of w ≡ Used.Uses weight peak → (numbers : List ℕ) × (u : Usage) × (w ≡ walked numbers u)
-used_walked undecodable weight peak e = absurd (let z : ◌≡◌ {A = ℕ} 0 1 = cc in omega arith)
-used_walked crowded weight peak e = absurd (let z : ◌≡◌ {A = ℕ} 0 1 = cc in omega arith)
-used_walked unfinished weight peak e = absurd (let z : ◌≡◌ {A = ℕ} 0 1 = cc in omega arith)
-used_walked (walked numbers u) weight peak e = (numbers, u, refl)
+pub used_walked : (w : Walked) (usage : told.Usage) → used_of w ≡ Ok usage → (numbers : List ℕ) × (u : Usage) × (w ≡ walked numbers u)
+used_walked undecodable usage e = absurd (let z : ◌≡◌ {A = ℕ} 0 1 = cc in omega arith)
+used_walked crowded usage e = absurd (let z : ◌≡◌ {A = ℕ} 0 1 = cc in omega arith)
+used_walked unfinished usage e = absurd (let z : ◌≡◌ {A = ℕ} 0 1 = cc in omega arith)
+used_walked (walked numbers u) usage e = (numbers, u, refl)
 
-pub used_crowded : (w : Walked) → used_of w ≡ Used.QueueFull → w ≡ crowded
+pub used_crowded : (w : Walked) → used_of w ≡ Err Unwalked.QueueFull → w ≡ crowded
 used_crowded undecodable e = absurd (let z : ◌≡◌ {A = ℕ} 0 1 = cc in omega arith)
 used_crowded crowded e = refl
 used_crowded unfinished e = absurd (let z : ◌≡◌ {A = ℕ} 0 1 = cc in omega arith)
 used_crowded (walked numbers u) e = absurd (let z : ◌≡◌ {A = ℕ} 0 1 = cc in omega arith)
 
-pub used_undecodable : (w : Walked) → (w ≡ unfinished → ⊥) → used_of w ≡ Used.Undecodable → w ≡ undecodable
+pub used_undecodable : (w : Walked) → (w ≡ unfinished → ⊥) → used_of w ≡ Err Unwalked.Undecodable → w ≡ undecodable
 used_undecodable undecodable n e = refl
 used_undecodable crowded n e = absurd (let z : ◌≡◌ {A = ℕ} 0 1 = cc in omega arith)
 used_undecodable unfinished n e = absurd (n refl)

@@ -1,5 +1,7 @@
 -- A row of callee cells: a cell joins it where it is not there yet, and there is room, since cells are 1 to 128 and none stands twice.
 -- Assumes nothing.
+use Rattle.std.specs.Prelude.{◌||◌, nat_eq}
+use Rattle.std.specs.List.{list_any}
 use Prim.Native.Nat.{ℕ, zero, suc, ◌+◌, ◌-◌, ◌≤◌, ◌<◌}
 use native.Mathlib.Omega.{arith}
 use native.Mathlib.Numerals.{add-one}
@@ -126,23 +128,11 @@ has_at c [] i h e = absurd (omega arith)
 has_at c (x ∷ cells) zero h e = has_here c x cells e
 has_at c (x ∷ cells) (suc i) h e = or_else (eqb x c) (has c cells) (has_at c cells i (omega arith) e)
 
-pub record Looking (row : List ℕ) (met cell i : ℕ) : Type 0 where
-  pub within : i ≤ met
-  pub not_yet : has cell (take i row) ≡ false
-
-pub looking_first : (row : List ℕ) (met cell : ℕ) → Looking row met cell 0
-looking_first row met cell = record { within = omega arith; not_yet = refl }
-
-module _ (row : List ℕ) (met cell i : ℕ) (g : Looking row met cell i) where
-  pub looking_end : met ≤ i → false ≡ has cell (take met row)
-  looking_end h = let e : i ≡ met = omega (arith, g.within) in sym g.not_yet ∙ ap (λ (n : ℕ). has cell (take n row)) e
-
-  module _ (more : i < met) (room : met ≤ length row) where
-    step : take (i + 1) row ≡ take i row ++ (get_or row i 0 ∷ [])
-    step = ap (λ (n : ℕ). take n row) (add-one i) ∙ take-suc row i 0 (omega arith)
-
-    pub looking_on : (get_or row i 0 ≡ cell → ⊥) → Looking row met cell (i + 1)
-    looking_on n = record { within = omega arith; not_yet = ap (has cell) step ∙ has_snoc cell (get_or row i 0) (take i row) ∙ rw g.not_yet (ne_eqb (get_or row i 0) cell n) }
-
-    pub looking_found : get_or row i 0 ≡ cell → true ≡ has cell (take met row)
-    looking_found e = sym (has_at cell (take met row) i (let t = length-take-le met row room in omega arith) (get_or-take met row i 0 more ∙ e))
+-- the library's search along a row
+pub listed_any : (cell : ℕ) (cells : List ℕ) → list_any (λ c. nat_eq c cell) cells ≡ has cell cells
+listed_any cell [] = refl
+listed_any cell (x ∷ cells) = by (eqb x cell) (listed_any cell cells)
+  where
+    by : (b : Bool) → list_any (λ c. nat_eq c cell) cells ≡ has cell cells → (b || list_any (λ c. nat_eq c cell) cells) ≡ cond b true (has cell cells)
+    by true e = refl
+    by false e = e
