@@ -2,14 +2,14 @@
 --     onward_fine, onward_failed       of a function's closing
 --     fine_callees, failed_callee      of a list of functions
 --     callee_fine, callee_failed       of one callee
-use Rattle.std.specs.Prelude.{◌≡◌, Bool, true, false, ◌⊎◌, ℕ, ◌≤◌, ◌<◌, max, ltb}
+-- And `handed`: what holds of a total and a state holds of them as they are handed on.
+use Rattle.std.specs.Prelude.{◌≡◌, Bool, true, false, ◌⊎◌, ℕ, ◌≤◌, ◌<◌, max, ltb, Result, Ok, Err}
 use Rattle.std.proofs.Math.Path.{refl}
 use Rattle.std.proofs.Common.{sym, ap, ◌∙◌, subst, le_trans, arith, ltb-true, ltb-false, lt-ltb, le-ltb}
 use mathlib.Core.List.{List, [], ◌∷◌}
 use Rattle.std.proofs.Math.Logic.{inl, inr, ⊎_elim}
 use Rattle.std.proofs.Math.Nat.{le-max_left, le-max_right, max-eq_left, max-eq_right}
 use Rattle.std.proofs.Math.Decide.{dec_le}
-use Rattle.std.specs.Prelude.{Result, Ok, Err}
 use Rattle.visit.specs.declared.Overrun.{Overrun}
 use Rattle.visit.specs.declared.State.{State}
 use Rattle.visit.specs.declared.Overrun.TheVariants.{Cycle, Over}
@@ -27,7 +27,7 @@ unfolding onward
 onward_failed (Ok b) next o e = inr (b, refl, e)
 onward_failed (Err x) next o e = inl e
 
--- what holds of the total and the state that are handed on holds of their other names
+-- what holds of a total and a state holds of what is equal to both at once
 pub handed : (P : ℕ → State → Type 0) {t u : ℕ} {s r : State} → ◌≡◌ {A = Result (ℕ × State) Overrun} (Ok (t, s)) (Ok (u, r)) → P t s → P u r
 handed P {t} {u} {s} {r} e h = let z : ◌≡◌ {A = ℕ × State} (t, s) (u, r) = cc in subst (λ (p : ℕ × State). P p.0 p.1) z h
 

