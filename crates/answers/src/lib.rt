@@ -5,11 +5,11 @@ ghost use Rattle.std.specs.Prelude.{◌≡◌, ◌%◌};
 ghost use Rattle.answers.specs.Fields.{word, signed_word, fields_by, violation_fields, refusal_fields, no_fields, rule_number};
 
 use flow::Spot;
-use program::Input;
+use program::Refusal;
 use rules::Violation;
 
 // Number, function, offset, a, b, c; unused fields are 0. A refusal has its place in the offset's field.
-#[derive(Drop)]
+#[derive(Clone, Copy, PartialEq, Eq, Debug)]
 pub struct Fields {
     pub number: u32,
     pub function: u32,
@@ -19,25 +19,8 @@ pub struct Fields {
     pub c: u32,
 }
 
-fn wide8(x: u8) -> u64
-    ensures { result ≡ x }
-{
-    x as u64
-}
-
-fn wide16(x: u16) -> u64
-    ensures { result ≡ x }
-{
-    x as u64
-}
-
-fn low64(n: u64) -> u32
-    ensures { result ≡ word n }
-{
-    (n % 4294967296) as u32
-}
-
-fn low_size(n: usize) -> u32
+// The low 32 bits.
+fn word(n: u64) -> u32
     ensures { result ≡ word n }
 {
     (n % 4294967296) as u32
@@ -54,47 +37,56 @@ fn signed_word(spot: Spot) -> u64
 }
 
 // An answer by its number and values.
+#[tactic(auto, unfolding(crate::specs::Fields::fields_by))]
 pub fn fields_by(number: u32, function: u16, offset: usize, a: u64, b: u64, c: u64) -> Fields
     ensures { result ≡ fields_by number function offset a b c }
 {
     Fields {
         number,
-        function: function as u32,
-        offset: low_size(offset),
-        a: low64(a),
-        b: low64(b),
-        c: low64(c),
+        function: u32::from(function),
+        offset: word(offset as u64),
+        a: word(a),
+        b: word(b),
+        c: word(c),
     }
 }
 
 // A violation of the stack's rules, in a function.
+#[tactic(auto, unfolding(crate::specs::Fields::violation_fields))]
 pub fn of_violation(function: u16, violation: Violation) -> Fields
     ensures { result ≡ violation_fields function violation }
 {
     match violation {
         Violation::UnknownOpcode { offset, byte } => {
-            fields_by(1, function, offset, wide8(byte), 0, 0)
+            fields_by(1, function, offset, u64::from(byte), 0, 0)
         }
         Violation::TruncatedInstruction { offset, opcode } => {
-            fields_by(2, function, offset, wide8(opcode), 0, 0)
+            fields_by(2, function, offset, u64::from(opcode), 0, 0)
         }
         Violation::UnknownBuiltin { offset, id } => {
-            fields_by(3, function, offset, wide16(id), 0, 0)
+            fields_by(3, function, offset, u64::from(id), 0, 0)
         }
         Violation::UnknownCallee { offset, callee } => {
-            fields_by(4, function, offset, wide16(callee), 0, 0)
+            fields_by(4, function, offset, u64::from(callee), 0, 0)
         }
         Violation::Underflow {
             offset,
             opcode,
             needs,
             has,
-        } => fields_by(5, function, offset, wide8(opcode), wide16(needs), has),
+        } => fields_by(
+            5,
+            function,
+            offset,
+            u64::from(opcode),
+            u64::from(needs),
+            has,
+        ),
         Violation::ExceedsDeclaredMax {
             offset,
             depth,
             declared,
-        } => fields_by(6, function, offset, depth, wide16(declared), 0),
+        } => fields_by(6, function, offset, depth, u64::from(declared), 0),
         Violation::InvalidJumpTarget { offset, target } => {
             fields_by(7, function, offset, signed_word(target), 0, 0)
         }
@@ -111,8 +103,9 @@ pub fn of_violation(function: u16, violation: Violation) -> Fields
     }
 }
 
-// A refusal, with its place.
-pub fn of_refusal(input: Input) -> Fields
+// What is said of an input: a refusal, with its place.
+#[tactic(auto, unfolding(crate::specs::Fields::refusal_fields))]
+pub fn of_refusal(input: Result<(), Refusal>) -> Fields
     ensures { result ≡ refusal_fields input }
 {
     fields_by(program::number(input), 0, program::place(input), 0, 0, 0)
@@ -132,6 +125,7 @@ pub fn accepted() -> Fields
 }
 
 // The number of the rule that an answer stands for, 0 where it stands for none.
+#[tactic(auto, unfolding(crate::specs::Fields::rule_number))]
 pub fn rule_number(number: u32) -> u32
     ensures { result ≡ rule_number number }
 {

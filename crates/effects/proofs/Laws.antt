@@ -1,8 +1,7 @@
 -- On an input that is not refused, what the code reads of an effect is 01's: the halving finds the row that reading row after row finds, a function's
 -- own number is its row, and where a METHOD_CALL stands the filled column holds what decoding each callee says.
 -- Assumes nothing.
-use Rattle.codes.specs.First.{Place}
-use Rattle.std.specs.Prelude.{ℕ, zero, suc, ◌+◌, ◌≤◌, ◌<◌, ◌≡◌, Bool, true, false, length, set, Some, None}
+use Rattle.std.specs.Prelude.{ℕ, zero, suc, ◌+◌, ◌≤◌, ◌<◌, ◌≡◌, Bool, true, false, length, set, Some, None, Ok}
 use Rattle.std.proofs.Common.{arith, ◌∙◌, sym, length-set, get_or-set_same, get_or-set_other}
 use Rattle.std.proofs.Math.Decide.{ℕ_discrete}
 use Rattle.std.proofs.Math.Path.{refl, ap}
@@ -15,6 +14,7 @@ use Rattle.tables.specs.declared.Move.TheVariants.{Fixed, Builtin, Call, Method}
 use Rattle.tables.specs.Set.{effect, size_of}
 use Rattle.flow.specs.Decode.{word_at}
 use Rattle.flow.specs.Walk.{walk_by, has_ret}
+use Rattle.codes.specs.First.{Place}
 use Rattle.codes.specs.Lookup.{place_of}
 use Rattle.codes.specs.LookupLaws.{place_in, place_nowhere, place_missing}
 use Rattle.codes.proofs.LookupLaws.{hinted_up_lem}
@@ -23,7 +23,6 @@ use Rattle.program.specs.Program.{CodeList, Program, body_of, body_is}
 use Rattle.program.specs.Seat.{seat_of}
 use Rattle.program.specs.Laws.{seat_place}
 use Rattle.program.specs.Taken.{StackTaken}
-use Rattle.rules.specs.declared.Known.{Known}
 use Rattle.effects.specs.Effects.{Directory, directory_of, on_entry, on_place, builtin_by, call_by, method_by, move_by, known_by, gives_back, fill_from, filled, is_there, names_method, given_back, move_of_program, known_of}
 
 -- cells before the row are as they were
@@ -82,7 +81,7 @@ module _ (p : Program) (room : Room) (t : StackTaken p room) (column : List ℕ)
   method_by_lem id (Some k) e =
       let h = place_in p.functions.ids id k e in
       let g = given_at size_of p.functions.offsets p.functions.lengths p.code column k (omega (arith, t.offsets_length, t.functions_limit)) (omega (arith, t.offsets_length)) in
-      ap (λ (n : ℕ). Known.Moves (effect (get_or p.functions.parameters k 0) n)) (g ∙ ap (λ (b : List ℕ). cond (has_ret (walk_by size_of b 0)) 1 0) (sym (body_is p k)))
+      ap (λ (n : ℕ). Ok (effect (get_or p.functions.parameters k 0) n)) (g ∙ ap (λ (b : List ℕ). cond (has_ret (walk_by size_of b 0)) 1 0) (sym (body_is p k)))
   method_by_lem id None e = refl
 
   move_known : (hints operands : List ℕ) (m : Move) → (m ≡ Method → given ≡ all) → move_by hints p.list columns operands m ≡ move_of_program p operands m
@@ -106,6 +105,6 @@ module _ (p : Program) (room : Room) (t : StackTaken p room) (column : List ℕ)
   known_is hints moves only k h op e operands = move_known hints operands (moves op) (λ m. given_all (method_named p.code k h (e ∙ only op m)))
 
 -- an effect of the table
-pub known_fixed : (moves : ℕ → Move) (hints : List ℕ) (list : CodeList) (d : Directory) (op : ℕ) (operands : List ℕ) (e : Effect) → moves op ≡ Fixed e → known_by moves hints list d op operands ≡ Known.Moves e
+pub known_fixed : (moves : ℕ → Move) (hints : List ℕ) (list : CodeList) (d : Directory) (op : ℕ) (operands : List ℕ) (e : Effect) → moves op ≡ Fixed e → known_by moves hints list d op operands ≡ Ok e
 unfolding known_by
 known_fixed moves hints list d op operands e w = ap (move_by hints list d operands) w

@@ -1,13 +1,10 @@
 -- Looking through a code for METHOD_CALL: what the bytes before a place say.
 -- Assumes nothing.
-use borrow.Author.Count.{below_more}
-use borrow.Author.Tests.{eqb-true, eqb-false}
-use Prim.Native.Nat.{ℕ, ◌+◌, ◌≤◌, ◌<◌}
+use Prim.Native.Nat.{ℕ, ◌≤◌, ◌<◌}
 use native.Mathlib.Omega.{arith}
-use mathlib.Core.Path.{◌≡◌, refl, sym}
-use mathlib.Core.Bool.{Bool, true, false, cond}
+use mathlib.Core.Path.{◌≡◌, sym}
+use mathlib.Core.Bool.{Bool, true, false}
 use mathlib.Core.List.{List}
-use lib.Dec.{eqb}
 use lib.ListN.{length, get_or}
 use Rattle.effects.specs.Effects.{names_method}
 use Rattle.effects.proofs.Laws.{method_named, method_not_named}
@@ -21,14 +18,6 @@ pub record Scanned (code : List ℕ) (i : ℕ) (named : Bool) : Type 0 where
   pub says : Says code i named
 
 module _ (code : List ℕ) (i : ℕ) where
-  pub says_more : i < length code → (named t : Bool) → eqb (get_or code i 0) 0xF8 ≡ t → Says code i named → Says code (i + 1) (cond t true named)
-  says_more h named true e s = (i, (h, eqb-true (get_or code i 0) 0xF8 e))
-  says_more h false false e s = below_more (λ (k : ℕ). get_or code k 0 ≡ 0xF8 → ⊥) i s (eqb-false (get_or code i 0) 0xF8 e)
-  says_more h true false e s = s
-
-  pub scanned_more : i < length code → (named last : Bool) → last ≡ cond (eqb (get_or code i 0) 0xF8) true named → Scanned code i named → Scanned code (i + 1) last
-  scanned_more h named last e s = record { within = omega arith; says = rw e (says_more h named (eqb (get_or code i 0) 0xF8) refl s.says) }
-
   pub says_all : length code ≤ i → (named : Bool) → Says code i named → named ≡ names_method code
   says_all h false s = sym (method_not_named code (λ j l. s j (omega arith)))
   says_all h true s = sym (method_named code s.0 s.1.0 s.1.1)

@@ -1,17 +1,18 @@
 -- What an instruction takes and leaves in a program. `known_by` reads lent columns as the code does; `known_of` is 01's, with every lookup row by row
 -- and each callee decoded; proofs/Laws.antt says that on an input that is not refused they are one.
 -- Assumes nothing.
-use Rattle.codes.specs.First.{Place}
-use Rattle.std.specs.Prelude.{ℕ, zero, suc, Bool, true, false, cond, List, length, get_or, set, take, drop, Some, None}
+use Rattle.std.specs.Prelude.{ℕ, zero, suc, Bool, true, false, cond, List, length, get_or, set, take, drop, Some, None, Ok, Err}
 use Rattle.tables.specs.declared.Move.{Move}
 use Rattle.tables.specs.declared.Move.TheVariants.{Fixed, Builtin, Call, Method}
 use Rattle.tables.specs.Set.{effect, size_of}
 use Rattle.flow.specs.Decode.{word_at}
 use Rattle.flow.specs.Walk.{walk_by, has_ret}
+use Rattle.codes.specs.First.{Place}
 use Rattle.codes.specs.Lookup.{hinted_up, entry_of, place_of, Entry}
 use Rattle.program.specs.Program.{CodeList, Program, body_of}
 use Rattle.program.specs.Seat.{seat_of}
-use Rattle.rules.specs.declared.Known.{Known}
+use Rattle.rules.specs.Look.{Known}
+use Rattle.rules.specs.declared.Unknown.{Unknown}
 
 -- what the directory says of calls: ids, parameter counts, and what METHOD_CALL leaves
 pub record Directory : Type 0 where
@@ -24,13 +25,13 @@ directory_of i p g = record { ids = i; parameters = p; given = g }
 
 -- BUILTIN takes its listed count and leaves 1
 abbrev pub on_entry : ℕ → Entry → Known
-on_entry id (Some listed) = Known.Moves (effect listed.count 1)
-on_entry id None = Known.UnknownBuiltin id
+on_entry id (Some listed) = Ok (effect listed.count 1)
+on_entry id None = Err (Unknown.Builtin id)
 
 -- CALL and METHOD_CALL take the callee's parameter count
 abbrev pub on_place : List ℕ → (ℕ → ℕ) → ℕ → Place → Known
-on_place parameters leaves id (Some k) = Known.Moves (effect (get_or parameters k 0) (leaves k))
-on_place parameters leaves id None = Known.UnknownCallee id
+on_place parameters leaves id (Some k) = Ok (effect (get_or parameters k 0) (leaves k))
+on_place parameters leaves id None = Err (Unknown.Callee id)
 
 unfoldable pub builtin_by : List ℕ → CodeList → ℕ → Known
 builtin_by hints list id = on_entry id (hinted_up hints list.ids list.counts list.flags id)
@@ -42,7 +43,7 @@ unfoldable pub method_by : List ℕ → List ℕ → List ℕ → ℕ → Known
 method_by ids parameters given id = on_place parameters (λ k. get_or given k 0) id (seat_of ids id)
 
 abbrev pub move_by : List ℕ → CodeList → Directory → List ℕ → Move → Known
-move_by hints list d operands (Fixed e) = Known.Moves e
+move_by hints list d operands (Fixed e) = Ok e
 move_by hints list d operands Builtin = builtin_by hints list (word_at operands 0)
 move_by hints list d operands Call = call_by d.ids d.parameters (word_at operands 0)
 move_by hints list d operands Method = method_by d.ids d.parameters d.given (word_at operands 0)
@@ -76,7 +77,7 @@ unfoldable pub given_back : (ℕ → ℕ) → List ℕ → List ℕ → List ℕ
 given_back sizes offsets lengths code column = cond (names_method code) (filled sizes offsets lengths code column) column
 
 abbrev pub move_of_program : Program → List ℕ → Move → Known
-move_of_program p operands (Fixed e) = Known.Moves e
+move_of_program p operands (Fixed e) = Ok e
 move_of_program p operands Builtin = on_entry (word_at operands 0) (entry_of p.list.ids p.list.counts p.list.flags (word_at operands 0))
 move_of_program p operands Call = on_place p.functions.parameters (λ k. 1) (word_at operands 0) (place_of p.functions.ids (word_at operands 0))
 move_of_program p operands Method =

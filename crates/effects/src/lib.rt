@@ -2,119 +2,86 @@
 // that it names. Whether a function gives back a value is decoded once for a program, into a column.
 #![tactic(auto)]
 
-ghost use Rattle.std.specs.Prelude.{◌≡◌, true, cond, eqb};
-ghost use Rattle.tables.specs.Packed.{size_in, move_in};
-ghost use Rattle.program.specs.Program.{list_of};
-ghost use Rattle.effects.specs.Effects.{Directory, directory_of, builtin_by, call_by, method_by, known_by, filled, gives_back, names_method, given_back};
+ghost use Rattle.std.specs.Prelude.{◌≡◌, cond};
+ghost use Rattle.tables.specs.Packed.{size_in};
+ghost use Rattle.program.specs.Stated.{list_in};
+ghost use Rattle.effects.specs.Effects.{builtin_by, call_by, method_by, filled, gives_back, names_method, given_back};
+ghost use Rattle.effects.specs.Stated.{known_in};
 
-use codes::{Entry, Place};
-use rules::Known;
+use program::Program;
+use rules::Unknown;
 use tables::{Effect, FunctionId, Move};
 
-// BUILTIN takes its listed count and leaves 1.
-fn builtin_effect(hints: &[u16], list_ids: &[u16], counts: &[u16], flags: &[u16], id: u16) -> Known
-    ensures { result ≡ builtin_by hints.now (list_of list_ids.now counts.now flags.now) id }
-{
-    let entry = codes::look_up(hints, list_ids, counts, flags, id);
-    match entry {
-        Entry::Listed { count, flag: _ } => Known::Moves(Effect::new(count, 1)),
-        Entry::Unknown => Known::UnknownBuiltin(id),
+// Where the effects of a program's instructions are read: the packed table, hints of the code list (any will do), what each function gives
+// back (1 if it gives back a value, else 0), and the program itself.
+#[derive(Clone, Copy)]
+pub struct Sources<'a> {
+    pub words: &'a [u16; 256],
+    pub hints: &'a [u16],
+    pub given: &'a [u8],
+    pub program: Program<'a>,
+}
+
+impl Sources<'_> {
+    // BUILTIN takes its listed count and leaves 1.
+    #[tactic(auto, unfolding(crate::specs::Effects::builtin_by))]
+    fn builtin_effect(&self, id: u16) -> Result<Effect, Unknown>
+        ensures { result ≡ builtin_by self.now.hints.now (list_in self.now.program.list) id }
+    {
+        let entry = codes::look_up(self.hints, &self.program.list, id);
+        let listed = entry.ok_or(Unknown::Builtin(id))?;
+        Ok(Effect::new(listed.count, 1))
     }
-}
 
-// CALL takes the callee's parameter count and leaves 1.
-fn call_effect(ids: &[u16], parameters: &[u16], callee: FunctionId) -> Known
-    ensures { result ≡ call_by ids.now parameters.now callee.0 }
-{
-    let id = callee.0;
-    let place = program::function_row(ids, id);
-    match place {
-        Place::Row(row) => Known::Moves(Effect::new(cells::at(parameters, row), 1)),
-        Place::Nowhere => Known::UnknownCallee(id),
+    // CALL and METHOD_CALL take the callee's parameter count. CALL leaves 1, METHOD_CALL what the callee gives back.
+    #[tactic(auto, unfolding(crate::specs::Effects::call_by, crate::specs::Effects::method_by))]
+    fn call_effect(&self, callee: FunctionId, is_method: bool) -> Result<Effect, Unknown>
+        ensures { result ≡ cond is_method (method_by self.now.program.functions.ids.now self.now.program.functions.parameters.now self.now.given.now callee.0) (call_by self.now.program.functions.ids.now self.now.program.functions.parameters.now callee.0) }
+    {
+        let id = callee.0;
+        let functions = &self.program.functions;
+        let row = program::function_row(functions.ids, id).ok_or(Unknown::Callee(id))?;
+        let leaves = if is_method {
+            cells::at(self.given, row) as u16
+        } else {
+            1
+        };
+        Ok(Effect::new(cells::at(functions.parameters, row), leaves))
     }
-}
 
-fn wide(x: u8) -> u16
-    ensures { result ≡ x }
-{
-    x as u16
-}
-
-// METHOD_CALL takes the same, and leaves what the callee gives back.
-fn method_effect(ids: &[u16], parameters: &[u16], given: &[u8], callee: FunctionId) -> Known
-    ensures { result ≡ method_by ids.now parameters.now given.now callee.0 }
-{
-    let id = callee.0;
-    let place = program::function_row(ids, id);
-    match place {
-        Place::Row(row) => Known::Moves(Effect::new(
-            cells::at(parameters, row),
-            wide(cells::at(given, row)),
-        )),
-        Place::Nowhere => Known::UnknownCallee(id),
-    }
-}
-
-// The effect of the instruction op with these operands. `given` holds, for each function, 1 if it gives back a value, else 0.
-pub fn effect_of(
-    words: &[u16; 256],
-    hints: &[u16],
-    list_ids: &[u16],
-    counts: &[u16],
-    flags: &[u16],
-    ids: &[u16],
-    parameters: &[u16],
-    given: &[u8],
-    op: u8,
-    operands: &[u8],
-) -> Known
-    ensures { result ≡ known_by (move_in words.now) hints.now (list_of list_ids.now counts.now flags.now) (directory_of ids.now parameters.now given.now) op operands.now }
-{
-    let source = tables::move_in(words, op);
-    match source {
-        Move::Fixed(effect) => Known::Moves(effect),
-        Move::Builtin => builtin_effect(hints, list_ids, counts, flags, flow::builtin_of(operands)),
-        Move::Call => call_effect(ids, parameters, flow::callee_of(operands)),
-        Move::Method => method_effect(ids, parameters, given, flow::callee_of(operands)),
+    // The effect of the instruction op with these operands.
+    #[tactic(auto, unfolding(crate::specs::Effects::known_by))]
+    pub fn effect_of(&self, op: u8, operands: &[u8]) -> Result<Effect, Unknown>
+        ensures { result ≡ known_in self.now op operands.now }
+    {
+        match tables::move_in(self.words, op) {
+            Move::Fixed(effect) => Ok(effect),
+            Move::Builtin => self.builtin_effect(flow::builtin_of(operands)),
+            Move::Call => self.call_effect(flow::callee_of(operands), false),
+            Move::Method => self.call_effect(flow::callee_of(operands), true),
+        }
     }
 }
 
 // 1 if RET is among the instructions of a body before its first decoding stop, else 0.
+#[tactic(auto, unfolding(crate::specs::Effects::gives_back))]
 fn gives_back(sizes: &[u8; 256], code: &[u8], offset: usize, length: usize) -> u8
     ensures { result ≡ gives_back (size_in sizes.now) code.now offset length }
 {
-    if flow::starts::has_ret(sizes, cells::part(code, offset, length)) {
-        1
-    } else {
-        0
-    }
+    let body = cells::part(code, offset, length);
+    u8::from(flow::starts::has_ret(sizes, body))
 }
 
 // A cell for each row of the directory.
-fn fill_given(
-    given: &mut [u8],
-    sizes: &[u8; 256],
-    offsets: &[usize],
-    lengths: &[usize],
-    code: &[u8],
-)
-    ensures { given.new ≡ filled (size_in sizes.now) offsets.now lengths.now code.now given.old }
+fn fill_given(given: &mut [u8], sizes: &[u8; 256], program: &Program<'_>)
+    ensures { given.new ≡ filled (size_in sizes.now) program.now.functions.offsets.now program.now.functions.lengths.now program.now.code.now given.old }
 {
-    let mut row: usize = 0;
-    while row < offsets.len() {
-        let value = gives_back(sizes, code, offsets[row], cells::at(lengths, row));
+    let functions = &program.functions;
+    for row in 0..functions.offsets.len() {
+        let length = cells::at(functions.lengths, row);
+        let value = gives_back(sizes, program.code, functions.offsets[row], length);
         cells::put(given, row, value);
-        row += 1;
     }
-}
-
-fn or_method(named: bool, byte: u8) -> bool
-    ensures { result ≡ cond (eqb byte 0xF8) true named }
-{
-    if byte == 0xF8 {
-        return true;
-    }
-    named
 }
 
 // Whether a byte of the code is METHOD_CALL's, be it an opcode or not. No early end: the compiler then looks at many bytes at once.
@@ -122,25 +89,18 @@ fn names_method(code: &[u8]) -> bool
     ensures { result ≡ names_method code.now }
 {
     let mut named = false;
-    let mut i: usize = 0;
-    while i < code.len() {
-        named = or_method(named, code[i]);
-        i += 1;
+    for byte in code {
+        named |= *byte == 0xF8;
     }
     named
 }
 
 // What each function gives back, where a METHOD_CALL may ask for it: else the cells stay as they were and no body is decoded.
-pub fn given_back(
-    given: &mut [u8],
-    sizes: &[u8; 256],
-    offsets: &[usize],
-    lengths: &[usize],
-    code: &[u8],
-)
-    ensures { given.new ≡ given_back (size_in sizes.now) offsets.now lengths.now code.now given.old }
+#[tactic(auto, unfolding(crate::specs::Effects::given_back))]
+pub fn given_back(given: &mut [u8], sizes: &[u8; 256], program: &Program<'_>)
+    ensures { given.new ≡ given_back (size_in sizes.now) program.now.functions.offsets.now program.now.functions.lengths.now program.now.code.now given.old }
 {
-    if names_method(code) {
-        fill_given(given, sizes, offsets, lengths, code);
+    if names_method(program.code) {
+        fill_given(given, sizes, program);
     }
 }

@@ -17,12 +17,9 @@ use Rattle.flow.specs.declared.Flow.{Flow}
 use Rattle.flow.specs.declared.Flow.TheVariants.{Next, Jump, Branch, Return}
 use Rattle.flow.specs.Decode.{operands_at, flow_of, moved, target_of, Target}
 use Rattle.flow.proofs.Next.{legal}
-use Rattle.rules.specs.declared.Known.{Known}
+use Rattle.rules.specs.declared.Onward.TheVariants.{Leaves, Goes, Forks}
 use Rattle.rules.specs.declared.Violation.{Violation}
-use Rattle.rules.specs.declared.Look.{Look}
-use Rattle.rules.specs.declared.Look.TheVariants.{Bad, Leaves, Goes, Forks}
-use Rattle.rules.specs.Look.{Effects, larger, exit_at, on_target, flowing, moving, on_known, acting, look_of, Bounded}
-use Rattle.rules.specs.declared.Walked.TheVariants.{Accepted}
+use Rattle.rules.specs.Look.{Effects, larger, exit_at, on_target, flowing, moving, on_known, acting, look_of, Bounded, Known, Look}
 use Rattle.rules.specs.Walk.{walk_of}
 use Rattle.rules.specs.Assigned.{Satisfies}
 use Rattle.rules.proofs.Exact.{exact}
@@ -34,7 +31,7 @@ either n x true a b f g = f refl
 either n x false a b f g = g refl
 
 exit_bounded : (n x offset expected depth : ℕ) → Bounded n x (exit_at offset expected depth)
-exit_bounded n x offset expected depth = either n x (eqb depth expected) Leaves (Bad (Violation.UnbalancedReturn offset expected depth)) (λ _. tt) (λ _. tt)
+exit_bounded n x offset expected depth = either n x (eqb depth expected) (Ok Leaves) (Err (Violation.UnbalancedReturn offset expected depth)) (λ _. tt) (λ _. tt)
 
 module _ (known : Effects) (marks body : List ℕ) (maximum : ℕ) where
   abbrev Fine : Look → Type 0
@@ -48,9 +45,9 @@ module _ (known : Effects) (marks body : List ℕ) (maximum : ℕ) where
   unfolding flowing
   flowing_bounded offset next op out Next f o = omega arith
   flowing_bounded offset next op out (Jump word) f o =
-      target_bounded offset (λ to. Goes out to) (target_of marks (length body) (moved next word)) (λ to e. (⊎_elim (λ w. omega arith) (λ w. omega (arith, w.0)) (legal marks (length body) (moved next word) to e), o))
+      target_bounded offset (λ to. Ok (Goes out to)) (target_of marks (length body) (moved next word)) (λ to e. (⊎_elim (λ w. omega arith) (λ w. omega (arith, w.0)) (legal marks (length body) (moved next word) to e), o))
   flowing_bounded offset next op out (Branch word) f o =
-      target_bounded offset (λ to. Forks out to next) (target_of marks (length body) (moved next word)) (λ to e. (⊎_elim (λ w. omega arith) (λ w. omega (arith, w.0)) (legal marks (length body) (moved next word) to e), omega arith))
+      target_bounded offset (λ to. Ok (Forks out to next)) (target_of marks (length body) (moved next word)) (λ to e. (⊎_elim (λ w. omega arith) (λ w. omega (arith, w.0)) (legal marks (length body) (moved next word) to e), omega arith))
   flowing_bounded offset next op out Return f o = exit_bounded (length body + 1) maximum offset (cond (eqb op 0x88) 1 0) out
 
   moving_bounded : (offset op depth : ℕ) (e : Effect) (go : ℕ → Look) → ((out : ℕ) → out ≤ maximum → Fine (go out)) → Fine (moving offset op maximum depth e go)
@@ -65,9 +62,8 @@ module _ (known : Effects) (marks body : List ℕ) (maximum : ℕ) where
   acting_bounded offset depth op size f = by (known op (operands_at body offset size))
     where
       by : (k : Known) → Fine (on_known offset (λ e. moving offset op maximum depth e (λ out. flowing marks (length body) offset (offset + size) op out (flow_of op (operands_at body offset size)))) k)
-      by (Known.Moves e) = moving_bounded offset op depth e _ (λ out o. flowing_bounded offset (offset + size) op out (flow_of op (operands_at body offset size)) f o)
-      by (Known.UnknownBuiltin id) = tt
-      by (Known.UnknownCallee callee) = tt
+      by (Ok e) = moving_bounded offset op depth e _ (λ out o. flowing_bounded offset (offset + size) op out (flow_of op (operands_at body offset size)) f o)
+      by (Err unknown) = tt
 
   pub look_bounded : ((offset : ℕ) → offset < length body → offset + get_or marks offset 0 ≤ length body) → (offset depth : ℕ) → Bounded (length body + 1) maximum (look_of known marks body maximum offset depth)
   unfolding look_of
@@ -77,5 +73,5 @@ module _ (known : Effects) (marks body : List ℕ) (maximum : ℕ) where
       (λ _. exit_bounded (length body + 1) maximum offset 0 depth)
 
   pub accepted_exactly : ((offset : ℕ) → offset < length body → offset + get_or marks offset 0 ≤ length body)
-      → (walk_of (look_of known marks body maximum) (length body + 1) ≡ Accepted) ↔ ((depth : ℕ → ℕ) × Satisfies (look_of known marks body maximum) depth)
+      → (walk_of (look_of known marks body maximum) (length body + 1) ≡ Ok tt) ↔ ((depth : ℕ → ℕ) × Satisfies (look_of known marks body maximum) depth)
   accepted_exactly fits = exact (look_of known marks body maximum) (length body + 1) maximum (look_bounded fits) (omega arith)

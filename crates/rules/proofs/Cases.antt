@@ -13,38 +13,37 @@ use Rattle.tables.specs.declared.Effect.{Effect}
 use Rattle.flow.specs.declared.Spot.{Spot}
 use Rattle.flow.specs.declared.Flow.TheVariants.{Next, Jump, Branch, Return}
 use Rattle.flow.specs.Decode.{operands_at, flow_of, moved, target_of}
-use Rattle.rules.specs.declared.Known.{Known}
+use Rattle.rules.specs.declared.Unknown.{Unknown}
+use Rattle.rules.specs.declared.Onward.TheVariants.{Leaves, Goes, Forks}
 use Rattle.rules.specs.declared.Violation.{Violation}
-use Rattle.rules.specs.declared.Look.{Look}
-use Rattle.rules.specs.declared.Look.TheVariants.{Bad, Leaves, Goes, Forks}
-use Rattle.rules.specs.Look.{Effects, larger, exit_at, flowing, moving, on_known, acting, look_of}
+use Rattle.rules.specs.Look.{Effects, larger, exit_at, flowing, moving, on_known, acting, look_of, Known, Look}
 
 -- an exit at the right depth, and at another
-pub exit_leaves : (offset expected depth : ℕ) → depth ≡ expected → exit_at offset expected depth ≡ Leaves
+pub exit_leaves : (offset expected depth : ℕ) → depth ≡ expected → exit_at offset expected depth ≡ Ok Leaves
 exit_leaves offset expected depth e = simp (eq-eqb depth expected e)
 
-pub exit_bad : (offset expected depth : ℕ) → (depth ≡ expected → ⊥) → exit_at offset expected depth ≡ Bad (Violation.UnbalancedReturn offset expected depth)
+pub exit_bad : (offset expected depth : ℕ) → (depth ≡ expected → ⊥) → exit_at offset expected depth ≡ Err (Violation.UnbalancedReturn offset expected depth)
 exit_bad offset expected depth n = simp (ne_eqb depth expected n)
 
 -- 7 and the successors
 module _ (marks : List ℕ) (end offset next op out : ℕ) where
-  pub flowing_next : flowing marks end offset next op out Next ≡ Goes out next
+  pub flowing_next : flowing marks end offset next op out Next ≡ Ok (Goes out next)
   unfolding flowing
   flowing_next = refl
 
-  pub jump_legal : (word to : ℕ) → target_of marks end (moved next word) ≡ Ok to → flowing marks end offset next op out (Jump word) ≡ Goes out to
+  pub jump_legal : (word to : ℕ) → target_of marks end (moved next word) ≡ Ok to → flowing marks end offset next op out (Jump word) ≡ Ok (Goes out to)
   unfolding flowing
   jump_legal word to e = rw e
 
-  pub jump_illegal : (word : ℕ) (spot : Spot) → target_of marks end (moved next word) ≡ Err spot → flowing marks end offset next op out (Jump word) ≡ Bad (Violation.InvalidJumpTarget offset spot)
+  pub jump_illegal : (word : ℕ) (spot : Spot) → target_of marks end (moved next word) ≡ Err spot → flowing marks end offset next op out (Jump word) ≡ Err (Violation.InvalidJumpTarget offset spot)
   unfolding flowing
   jump_illegal word spot e = rw e
 
-  pub branch_legal : (word to : ℕ) → target_of marks end (moved next word) ≡ Ok to → flowing marks end offset next op out (Branch word) ≡ Forks out to next
+  pub branch_legal : (word to : ℕ) → target_of marks end (moved next word) ≡ Ok to → flowing marks end offset next op out (Branch word) ≡ Ok (Forks out to next)
   unfolding flowing
   branch_legal word to e = rw e
 
-  pub branch_illegal : (word : ℕ) (spot : Spot) → target_of marks end (moved next word) ≡ Err spot → flowing marks end offset next op out (Branch word) ≡ Bad (Violation.InvalidJumpTarget offset spot)
+  pub branch_illegal : (word : ℕ) (spot : Spot) → target_of marks end (moved next word) ≡ Err spot → flowing marks end offset next op out (Branch word) ≡ Err (Violation.InvalidJumpTarget offset spot)
   unfolding flowing
   branch_illegal word spot e = rw e
 
@@ -74,25 +73,25 @@ module _ (known : Effects) (marks body : List ℕ) (maximum offset depth : ℕ) 
     unfolding look_of acting
     look_known k e = simp (lt-ltb offset (length body) within, ← is_op, ← is_size, ← are, e)
 
-    pub look_builtin : (id : ℕ) → known op operands ≡ Known.UnknownBuiltin id → look_of known marks body maximum offset depth ≡ Bad (Violation.UnknownBuiltin offset id)
-    look_builtin id e = look_known (Known.UnknownBuiltin id) e
+    pub look_builtin : (id : ℕ) → known op operands ≡ Err (Unknown.Builtin id) → look_of known marks body maximum offset depth ≡ Err (Violation.UnknownBuiltin offset id)
+    look_builtin id e = look_known (Err (Unknown.Builtin id)) e
 
-    pub look_callee : (callee : ℕ) → known op operands ≡ Known.UnknownCallee callee → look_of known marks body maximum offset depth ≡ Bad (Violation.UnknownCallee offset callee)
-    look_callee callee e = look_known (Known.UnknownCallee callee) e
+    pub look_callee : (callee : ℕ) → known op operands ≡ Err (Unknown.Callee callee) → look_of known marks body maximum offset depth ≡ Err (Violation.UnknownCallee offset callee)
+    look_callee callee e = look_known (Err (Unknown.Callee callee)) e
 
-    module _ (e : Effect) (is_known : known op operands ≡ Known.Moves e) where
-      pub look_underflow : depth < e.takes → look_of known marks body maximum offset depth ≡ Bad (Violation.Underflow offset op e.takes depth)
+    module _ (e : Effect) (is_known : known op operands ≡ Ok e) where
+      pub look_underflow : depth < e.takes → look_of known marks body maximum offset depth ≡ Err (Violation.Underflow offset op e.takes depth)
       unfolding moving
-      look_underflow l = look_known (Known.Moves e) is_known ∙ simp (lt-ltb depth e.takes l)
+      look_underflow l = look_known (Ok e) is_known ∙ simp (lt-ltb depth e.takes l)
 
       module _ (out peak : ℕ) (enough : e.takes ≤ depth) (is-out : out ≡ depth - e.takes + e.leaves) (is-peak : peak ≡ larger depth out) where
-        pub look_exceeds : maximum < peak → look_of known marks body maximum offset depth ≡ Bad (Violation.ExceedsDeclaredMax offset peak maximum)
+        pub look_exceeds : maximum < peak → look_of known marks body maximum offset depth ≡ Err (Violation.ExceedsDeclaredMax offset peak maximum)
         unfolding moving
-        look_exceeds l = look_known (Known.Moves e) is_known ∙ simp (le-ltb depth e.takes enough, ← is-out, ← is-peak, lt-ltb maximum peak l)
+        look_exceeds l = look_known (Ok e) is_known ∙ simp (le-ltb depth e.takes enough, ← is-out, ← is-peak, lt-ltb maximum peak l)
 
         pub look_flow : peak ≤ maximum → look_of known marks body maximum offset depth ≡ flowing marks (length body) offset (offset + size) op out (flow_of op operands)
         unfolding moving
-        look_flow l = look_known (Known.Moves e) is_known ∙ simp (le-ltb depth e.takes enough, ← is-out, ← is-peak, le-ltb maximum peak l)
+        look_flow l = look_known (Ok e) is_known ∙ simp (le-ltb depth e.takes enough, ← is-out, ← is-peak, le-ltb maximum peak l)
 
 -- effects that agree at the opcodes of a body give the same looks
 alike_by : (known other : Effects) (marks body : List ℕ) (maximum offset depth : ℕ) → (offset < length body → (operands : List ℕ) → known (get_or body offset 0) operands ≡ other (get_or body offset 0) operands)

@@ -2,6 +2,8 @@
 -- Completeness: the walk's depths are the assignment's, so no turn stops. Soundness: each offset that has a depth waits, or the rules hold there
 -- and its successors have theirs; when none waits, the walk's depths are the assignment.
 -- Assumes nothing.
+use Rattle.std.specs.Prelude.{Ok, Err}
+use Rattle.rules.specs.declared.Onward.TheVariants.{Leaves, Goes, Forks}
 use mathlib.Core.Path.{◌≡◌, refl, sym, ap, ◌∙◌}
 use mathlib.Core.List.Memᴰ
 use mathlib.Core.List.{List, [], ◌∷◌, ◌++◌}
@@ -11,10 +13,7 @@ use native.Mathlib.Decide.{ℕ_discrete}
 use native.Mathlib.Omega.{arith}
 use lib.ListN.{length, get_or, set, length-set}
 use lib.Seq.{get_or-set_same}
-use Rattle.rules.specs.declared.Look.{Look}
-use Rattle.rules.specs.declared.Look.TheVariants.{Bad, Leaves, Goes, Forks}
-use Rattle.rules.specs.declared.Walked.TheVariants.{Accepted}
-use Rattle.rules.specs.Look.{Bounded}
+use Rattle.rules.specs.Look.{Bounded, Look}
 use Rattle.rules.specs.Walk.{Outcome, stop, go, ended, put, follow, walk_from, walk_of, begun, count}
 use Rattle.rules.specs.Assigned.{Holds, Names, Reached, start, step, Satisfies}
 use Rattle.rules.proofs.Counting.{count_le, length_begun, count_begun, begun_first, begun_other}
@@ -67,18 +66,18 @@ module _ (rule : ℕ → ℕ → Look) (n x : ℕ) (bounded : (offset depth : �
 
   follow_on_lem : (d q : List ℕ) (offset : ℕ) (L : Look) → rule offset (depth offset) ≡ L → Bounded n x L → Follows d q → Reached rule depth offset → On (follow d q L)
   unfolding On
-  follow_on_lem d q offset (Bad v) e b i h = absurd (rw e at (s.holds offset h))
-  follow_on_lem d q offset Leaves e b i h = (d, q, follow_leaves d q, i)
-  follow_on_lem d q offset (Goes out to) e b i h =
+  follow_on_lem d q offset (Err v) e b i h = absurd (rw e at (s.holds offset h))
+  follow_on_lem d q offset (Ok Leaves) e b i h = (d, q, follow_leaves d q, i)
+  follow_on_lem d q offset (Ok (Goes out to)) e b i h =
       let m : Names (rule offset (depth offset)) to out = rw e (refl, refl) in
       rw (follow_goes d q out to) (put_on d q to out i (step out h m) (s.agrees offset to out h m) b.0)
-  follow_on_lem d q offset (Forks out to next) e b i h =
+  follow_on_lem d q offset (Ok (Forks out to next)) e b i h =
       let m : Names (rule offset (depth offset)) to out = rw e (inl refl, refl) in
       let k : Names (rule offset (depth offset)) next out = rw e (inr refl, refl) in
       let g = put_on d q to out i (step out h m) (s.agrees offset to out h m) b.0 in
       rw (follow_forks_go d q out to next g.0 g.1 g.2) (put_on g.0 g.1 next out g.3 (step out h k) (s.agrees offset next out h k) b.1.0)
 
-  walk_on : (turns : ℕ) (d q : List ℕ) → Follows d q → walk_from rule turns d q ≡ Accepted
+  walk_on : (turns : ℕ) (d q : List ℕ) → Follows d q → walk_from rule turns d q ≡ Ok tt
   unfolding walk_from On
   walk_on zero d q i = refl
   walk_on (suc turns) d [] i = refl
@@ -89,7 +88,7 @@ module _ (rule : ℕ → ℕ → Look) (n x : ℕ) (bounded : (offset depth : �
       let g = follow_on_lem d q offset (rule offset (depth offset)) refl (bounded offset (depth offset)) j h.0 in
       rw (e, g.2) (walk_on turns g.0 g.1 g.3)
 
-  pub complete : 0 < n → walk_of rule n ≡ Accepted
+  pub complete : 0 < n → walk_of rule n ≡ Ok tt
   unfolding walk_of
   complete l =
       let at_first : (i : ℕ) → i ≡ 0 → get_or (begun n) i 0 ≡ depth i + 1 = λ i e. rw e (begun_first n l ∙ ap (λ (k : ℕ). k + 1) (sym s.at_start)) in
@@ -128,7 +127,7 @@ module _ (rule : ℕ → ℕ → Look) (n x : ℕ) (bounded : (offset depth : �
   unfolding Done
   done_stays w i g = (g.0, (w.stays i g.0 g.1.0, g.1.1, λ s out m. w.stays s out (g.1.2 s out m)))
 
-  walk_final : (turns : ℕ) (d q : List ℕ) → State turns d q → walk_from rule turns d q ≡ Accepted → Final
+  walk_final : (turns : ℕ) (d q : List ℕ) → State turns d q → walk_from rule turns d q ≡ Ok tt → Final
   unfolding walk_from Done
   walk_final zero d [] i e = none_waits zero d i
   walk_final zero d (offset ∷ q) i e = absurd (let l = count_le d in omega (arith, i.long, i.left))
@@ -138,8 +137,8 @@ module _ (rule : ℕ → ℕ → Look) (n x : ℕ) (bounded : (offset depth : �
       let dep : get_or d offset 0 - 1 ≡ h.0 = omega (arith, h.1) in
       turn h.0 h.1 (follow d q (rule offset h.0)) refl (rw dep at e) (λ d' q' j z. walk_final turns d' q' j z)
     where
-      turn : (v : ℕ) → get_or d offset 0 ≡ v + 1 → (o : Outcome) → follow d q (rule offset v) ≡ o → ended o (λ d' q'. walk_from rule turns d' q') ≡ Accepted
-          → ((d' q' : List ℕ) → State turns d' q' → walk_from rule turns d' q' ≡ Accepted → Final) → Final
+      turn : (v : ℕ) → get_or d offset 0 ≡ v + 1 → (o : Outcome) → follow d q (rule offset v) ≡ o → ended o (λ d' q'. walk_from rule turns d' q') ≡ Ok tt
+          → ((d' q' : List ℕ) → State turns d' q' → walk_from rule turns d' q' ≡ Ok tt → Final) → Final
       turn v h (stop a) g z rest = absurd (let y : ◌≡◌ {A = ℕ} 0 1 = cc in omega arith)
       turn v h (go d' q') g z rest =
           let p = follow_spreads n x d q (rule offset v) d' q' i.long (bounded offset v) g in
@@ -177,7 +176,7 @@ module _ (rule : ℕ → ℕ → Look) (n x : ℕ) (bounded : (offset depth : �
       agrees = λ i s out h m. let e = (reached i h).2 s out m in omega arith;
     }
 
-  pub sound : 0 < n → walk_of rule n ≡ Accepted → (depth : ℕ → ℕ) × Satisfies rule depth
+  pub sound : 0 < n → walk_of rule n ≡ Ok tt → (depth : ℕ → ℕ) × Satisfies rule depth
   unfolding walk_of Final
   sound l e =
       let o = count_begun n l in
@@ -192,5 +191,5 @@ module _ (rule : ℕ → ℕ → Look) (n x : ℕ) (bounded : (offset depth : �
       (_, satisfied g.0 g.1 g.2)
 
   -- the walk accepts exactly if some assignment satisfies the rules
-  pub exact : 0 < n → (walk_of rule n ≡ Accepted) ↔ ((depth : ℕ → ℕ) × Satisfies rule depth)
+  pub exact : 0 < n → (walk_of rule n ≡ Ok tt) ↔ ((depth : ℕ → ℕ) × Satisfies rule depth)
   exact l = (sound l, λ s. complete rule n x bounded s.0 s.1 l)

@@ -13,23 +13,21 @@ use borrow.Author.Tests.{ltb-true, ltb-false, eqb-true}
 use Rattle.tables.specs.declared.Effect.{Effect}
 use Rattle.flow.specs.declared.Flow.TheVariants.{Jump, Branch, Return}
 use Rattle.flow.specs.Decode.{operands_at, flow_of, moved, target_of, Target}
-use Rattle.rules.specs.declared.Known.{Known}
-use Rattle.rules.specs.declared.Look.{Look}
-use Rattle.rules.specs.declared.Look.TheVariants.{Bad}
+use Rattle.rules.specs.declared.Onward.TheVariants.{Leaves, Goes, Forks}
 use Rattle.rules.specs.declared.Violation.{Violation}
-use Rattle.rules.specs.Look.{Effects, larger, exit_at, on_target, flowing, moving, on_known, look_of}
+use Rattle.rules.specs.Look.{Effects, larger, exit_at, on_target, flowing, moving, on_known, look_of, Known, Look}
 use Rattle.rules.specs.Assigned.{Holds}
 use Rattle.rules.proofs.Cases.{look_end, look_known}
 
 -- where a failed test would be a violation, it did not fail
-not_bad : (t : Bool) (v : Violation) (L : Look) → Holds (cond t (Bad v) L) → (t ≡ false) × Holds L
+not_bad : (t : Bool) (v : Violation) (L : Look) → Holds (cond t (Err v) L) → (t ≡ false) × Holds L
 not_bad true v L h = absurd h
 not_bad false v L h = (refl, h)
 
 pub exit_held : (offset expected depth : ℕ) → Holds (exit_at offset expected depth) → depth ≡ expected
 exit_held offset expected depth h = by (eqb depth expected) refl h
   where
-    by : (t : Bool) → eqb depth expected ≡ t → Holds (cond t Look.Leaves (Bad (Violation.UnbalancedReturn offset expected depth))) → depth ≡ expected
+    by : (t : Bool) → eqb depth expected ≡ t → Holds (cond t (Ok Leaves) (Err (Violation.UnbalancedReturn offset expected depth))) → depth ≡ expected
     by true e g = eqb-true depth expected e
     by false e g = absurd g
 
@@ -52,11 +50,11 @@ module _ (marks : List ℕ) (end offset next op out : ℕ) where
 
   pub jump_held : (word : ℕ) → Holds (flowing marks end offset next op out (Jump word)) → (to : ℕ) × (target_of marks end (moved next word) ≡ Ok to)
   unfolding flowing
-  jump_held word h = target_held offset (λ to. Look.Goes out to) (target_of marks end (moved next word)) h
+  jump_held word h = target_held offset (λ to. Ok (Goes out to)) (target_of marks end (moved next word)) h
 
   pub branch_held : (word : ℕ) → Holds (flowing marks end offset next op out (Branch word)) → (to : ℕ) × (target_of marks end (moved next word) ≡ Ok to)
   unfolding flowing
-  branch_held word h = target_held offset (λ to. Look.Forks out to next) (target_of marks end (moved next word)) h
+  branch_held word h = target_held offset (λ to. Ok (Forks out to next)) (target_of marks end (moved next word)) h
 
 module _ (known : Effects) (marks body : List ℕ) (maximum offset depth : ℕ) where
   -- the body length needs 0
@@ -74,7 +72,7 @@ module _ (known : Effects) (marks body : List ℕ) (maximum offset depth : ℕ) 
 
   pub record Held : Type 0 where
     pub effect : Effect
-    pub is_known : known op_at operands ≡ Known.Moves effect
+    pub is_known : known op_at operands ≡ Ok effect
     pub enough : effect.takes ≤ depth
     pub before : depth ≤ maximum
     pub after : depth - effect.takes + effect.leaves ≤ maximum
@@ -87,11 +85,10 @@ module _ (known : Effects) (marks body : List ℕ) (maximum offset depth : ℕ) 
     where
       by : (k : Known) → known op_at operands ≡ k
           → Holds (on_known offset (λ e. moving offset op_at maximum depth e (λ out. flowing marks (length body) offset next_at op_at out (flow_of op_at operands))) k) → Held
-      by (Known.Moves e) w g =
+      by (Ok e) w g =
           let out = depth - e.takes + e.leaves in
           let a = not_bad (ltb depth e.takes) _ _ g in
           let b = not_bad (ltb maximum (larger depth out)) _ _ a.1 in
           let c = both_within depth out maximum (ltb-false _ _ b.0) in
           record { effect = e; is_known = w; enough = ltb-false _ _ a.0; before = c.0; after = c.1; flows = b.1 }
-      by (Known.UnknownBuiltin id) w g = absurd g
-      by (Known.UnknownCallee callee) w g = absurd g
+      by (Err unknown) w g = absurd g

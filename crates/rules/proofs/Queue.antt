@@ -1,6 +1,9 @@
 -- The walk's queue as a column holds it. `queue` is a column of which the cells from `head` to `tail` wait, and `offset` is held beside it, so the
 -- walk's own queue is `offset ∷ drop head (take tail queue)`. A law for each way that a turn of a loop over such a column can go.
 -- Assumes nothing.
+use Rattle.std.specs.Prelude.{Ok, Err}
+use Rattle.rules.specs.declared.Onward.TheVariants.{Leaves, Goes, Forks}
+use Rattle.rules.specs.Look.{Look}
 use mathlib.Core.Path.{◌≡◌, refl, sym, ap, ◌∙◌}
 use mathlib.Core.Bool.{Bool, true, false, cond}
 use mathlib.Core.List.{List, [], ◌∷◌, ◌++◌}
@@ -12,9 +15,6 @@ use lib.Seq.{drop-cons, drop-append-le, length-take-le, get_or-take}
 use lib.Dec.{eqb}
 use borrow.Author.Tests.{eq-eqb, ne_eqb}
 use Rattle.rules.specs.declared.Violation.{Violation}
-use Rattle.rules.specs.declared.Look.{Look}
-use Rattle.rules.specs.declared.Look.TheVariants.{Bad, Leaves, Goes, Forks}
-use Rattle.rules.specs.declared.Walked.TheVariants.{Accepted, Violated}
 use Rattle.rules.specs.Walk.{Outcome, stop, go, then, ended, put, follow, walk_from, begun, walk_of}
 
 -- The three ways of a successor.
@@ -33,23 +33,23 @@ module _ (depths queue : List ℕ) (to out : ℕ) where
 
 -- The successors, one law for each kind of look: branch target before next instruction.
 module _ (depths queue : List ℕ) where
-  pub follow_bad : (v : Violation) → follow depths queue (Bad v) ≡ stop v
+  pub follow_bad : (v : Violation) → follow depths queue (Err v) ≡ stop v
   unfolding follow
   follow_bad v = refl
 
-  pub follow_leaves : follow depths queue Leaves ≡ go depths queue
+  pub follow_leaves : follow depths queue (Ok Leaves) ≡ go depths queue
   unfolding follow
   follow_leaves = refl
 
-  pub follow_goes : (out to : ℕ) → follow depths queue (Goes out to) ≡ put depths queue to out
+  pub follow_goes : (out to : ℕ) → follow depths queue (Ok (Goes out to)) ≡ put depths queue to out
   unfolding follow
   follow_goes out to = refl
 
-  pub follow_forks_stop : (out to next : ℕ) (v : Violation) → put depths queue to out ≡ stop v → follow depths queue (Forks out to next) ≡ stop v
+  pub follow_forks_stop : (out to next : ℕ) (v : Violation) → put depths queue to out ≡ stop v → follow depths queue (Ok (Forks out to next)) ≡ stop v
   unfolding follow
   follow_forks_stop out to next v e = rw e
 
-  pub follow_forks_go : (out to next : ℕ) (d q : List ℕ) → put depths queue to out ≡ go d q → follow depths queue (Forks out to next) ≡ put d q next out
+  pub follow_forks_go : (out to next : ℕ) (d q : List ℕ) → put depths queue to out ≡ go d q → follow depths queue (Ok (Forks out to next)) ≡ put d q next out
   unfolding follow
   follow_forks_go out to next d q e = rw e
 
@@ -81,10 +81,10 @@ put_grows d q to out d' q' e = by (eqb (get_or d to 0) 0) (eqb (get_or d to 0) (
 
 pub follow_left : (d q : List ℕ) (L : Look) (h : ℕ) → h ≤ length q → follow d (drop h q) L ≡ left h (follow d q L)
 unfolding follow
-follow_left d q (Bad v) h l = refl
-follow_left d q Leaves h l = refl
-follow_left d q (Goes out to) h l = put_left d q to out h l
-follow_left d q (Forks out to next) h l = rw (put_left d q to out h l) (second (put d q to out) refl)
+follow_left d q (Err v) h l = refl
+follow_left d q (Ok Leaves) h l = refl
+follow_left d q (Ok (Goes out to)) h l = put_left d q to out h l
+follow_left d q (Ok (Forks out to next)) h l = rw (put_left d q to out h l) (second (put d q to out) refl)
   where
     second : (o : Outcome) → put d q to out ≡ o → then (left h o) (λ d' q'. put d' q' next out) ≡ left h (then o (λ d' q'. put d' q' next out))
     second (stop v) e = refl
@@ -100,7 +100,7 @@ first_waiting queue head tail room h =
 none_waiting : (queue : List ℕ) (head tail : ℕ) → tail ≤ length queue → tail ≤ head → drop head (take tail queue) ≡ []
 none_waiting queue head tail room h = let e = length-take-le tail queue room in drop_of_length-le (take tail queue) {i = head} (omega arith)
 
-pub walk_empty : (rule : ℕ → ℕ → Look) (turns : ℕ) (depths : List ℕ) → walk_from rule turns depths [] ≡ Accepted
+pub walk_empty : (rule : ℕ → ℕ → Look) (turns : ℕ) (depths : List ℕ) → walk_from rule turns depths [] ≡ Ok tt
 unfolding walk_from
 walk_empty rule zero depths = refl
 walk_empty rule (suc turns) depths = refl
@@ -113,7 +113,7 @@ module _ (rule : ℕ → ℕ → Look) (depths queue : List ℕ) (offset depth h
   turned turns = let g = length-take-le tail queue room in simp (← is-depth, ← is-look, follow_left depths (take tail queue) L head (omega arith))
 
   -- a violation
-  pub turn_stop : (turns : ℕ) (v : Violation) → follow depths (take tail queue) L ≡ stop v → walk_from rule (suc turns) depths (offset ∷ drop head (take tail queue)) ≡ Violated v
+  pub turn_stop : (turns : ℕ) (v : Violation) → follow depths (take tail queue) L ≡ stop v → walk_from rule (suc turns) depths (offset ∷ drop head (take tail queue)) ≡ Err v
   turn_stop turns v e = turned turns ∙ rw e
 
   -- the next one that waits
@@ -123,7 +123,7 @@ module _ (rule : ℕ → ℕ → Look) (depths queue : List ℕ) (offset depth h
 
   -- nothing waits
   pub turn_empty : (turns : ℕ) (d' queue' : List ℕ) (tail' : ℕ) → follow depths (take tail queue) L ≡ go d' (take tail' queue') → tail' ≤ head → tail' ≤ length queue'
-      → walk_from rule (suc turns) depths (offset ∷ drop head (take tail queue)) ≡ Accepted
+      → walk_from rule (suc turns) depths (offset ∷ drop head (take tail queue)) ≡ Ok tt
   turn_empty turns d' queue' tail' e h r = turned turns ∙ rw e (ap (λ (q : List ℕ). walk_from rule turns d' q) (none_waiting queue' head tail' r h) ∙ walk_empty rule turns d')
 
   -- the only new successor of an empty queue, which need not enter it
@@ -135,7 +135,7 @@ module _ (rule : ℕ → ℕ → Look) (depths queue : List ℕ) (offset depth h
       turned turns ∙ rw (e, drop-append-le head (take tail queue) (to ∷ []) (omega arith), n)
 
   -- The same by a number of turns that falls to one less.
-  pub loop_stop : (turns : ℕ) (v : Violation) → 0 < turns → follow depths (take tail queue) L ≡ stop v → walk_from rule turns depths (offset ∷ drop head (take tail queue)) ≡ Violated v
+  pub loop_stop : (turns : ℕ) (v : Violation) → 0 < turns → follow depths (take tail queue) L ≡ stop v → walk_from rule turns depths (offset ∷ drop head (take tail queue)) ≡ Err v
   loop_stop zero v l e = absurd (omega arith)
   loop_stop (suc turns) v l e = turn_stop turns v e
 
@@ -145,7 +145,7 @@ module _ (rule : ℕ → ℕ → Look) (depths queue : List ℕ) (offset depth h
   loop_go (suc turns) d' queue' tail' l e h r = let z : suc turns - 1 ≡ turns = omega arith in rw z (turn_go turns d' queue' tail' e h r)
 
   pub loop_empty : (turns : ℕ) (d' queue' : List ℕ) (tail' : ℕ) → 0 < turns → follow depths (take tail queue) L ≡ go d' (take tail' queue') → tail' ≤ head → tail' ≤ length queue'
-      → walk_from rule turns depths (offset ∷ drop head (take tail queue)) ≡ Accepted
+      → walk_from rule turns depths (offset ∷ drop head (take tail queue)) ≡ Ok tt
   loop_empty zero d' queue' tail' l e h r = absurd (omega arith)
   loop_empty (suc turns) d' queue' tail' l e h r = turn_empty turns d' queue' tail' e h r
 
@@ -155,7 +155,7 @@ module _ (rule : ℕ → ℕ → Look) (depths queue : List ℕ) (offset depth h
   loop_on (suc turns) d' to l h e = let z : suc turns - 1 ≡ turns = omega arith in rw z (turn_on turns d' to h e)
 
 -- where no turn is left
-pub walk_over : (rule : ℕ → ℕ → Look) (depths queue : List ℕ) → walk_from rule 0 depths queue ≡ Accepted
+pub walk_over : (rule : ℕ → ℕ → Look) (depths queue : List ℕ) → walk_from rule 0 depths queue ≡ Ok tt
 unfolding walk_from
 walk_over rule depths queue = refl
 

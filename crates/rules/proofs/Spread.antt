@@ -1,6 +1,8 @@
 -- What the successors of one instruction do to the depths and the queue: depths stay, each offset that gets one joins the queue and is counted,
 -- and each successor has its depth afterwards. By the three ways of one successor.
 -- Assumes nothing.
+use Rattle.std.specs.Prelude.{Ok, Err}
+use Rattle.rules.specs.declared.Onward.TheVariants.{Leaves, Goes, Forks}
 use mathlib.Core.Path.{◌≡◌, refl, sym, ◌∙◌}
 use mathlib.Core.List.Memᴰ
 use mathlib.Core.List.{List, [], ◌∷◌, ◌++◌, Memᴰ}
@@ -11,9 +13,7 @@ use native.Mathlib.Omega.{arith}
 use lib.ListN.{length, get_or, set, length-append, length-set}
 use lib.Seq.{get_or-set_same, get_or-set_other}
 use Rattle.rules.specs.declared.Violation.{Violation}
-use Rattle.rules.specs.declared.Look.{Look}
-use Rattle.rules.specs.declared.Look.TheVariants.{Bad, Leaves, Goes, Forks}
-use Rattle.rules.specs.Look.{Bounded}
+use Rattle.rules.specs.Look.{Bounded, Look}
 use Rattle.rules.specs.Walk.{Outcome, stop, go, put, follow, count}
 use Rattle.rules.specs.Assigned.{Holds, Names}
 use Rattle.rules.proofs.Counting.{count_set}
@@ -94,17 +94,17 @@ put_spreads d q to out d' q' l e = by (put d q to out) (way d q to out) e
 -- where the walk goes on, no rule is broken, and each successor has its depth
 pub follow_spreads : (n x : ℕ) (d q : List ℕ) (L : Look) (d' q' : List ℕ) → length d ≡ n → Bounded n x L → follow d q L ≡ go d' q'
     → Spread d q d' q' × Holds L × ((s out : ℕ) → Names L s out → get_or d' s 0 ≡ out + 1)
-follow_spreads n x d q (Bad v) d' q' l b e = absurd (let y : ◌≡◌ {A = ℕ} 0 1 = cc (follow_bad d q v) in omega arith)
-follow_spreads n x d q Leaves d' q' l b e =
+follow_spreads n x d q (Err v) d' q' l b e = absurd (let y : ◌≡◌ {A = ℕ} 0 1 = cc (follow_bad d q v) in omega arith)
+follow_spreads n x d q (Ok Leaves) d' q' l b e =
     let a : d ≡ d' = cc (follow_leaves d q) in
     let c : q ≡ q' = cc (follow_leaves d q) in
     (rw (← a, ← c) (spread_none d q), tt, λ s out m. absurd m)
-follow_spreads n x d q (Goes out to) d' q' l b e =
+follow_spreads n x d q (Ok (Goes out to)) d' q' l b e =
     let p = put_spreads d q to out d' q' (omega arith) (sym (follow_goes d q out to) ∙ e) in
     (p.0, tt, λ s o m. rw (← m.0, ← m.1) p.1)
-follow_spreads n x d q (Forks out to next) d' q' l b e = by (put d q to out) refl
+follow_spreads n x d q (Ok (Forks out to next)) d' q' l b e = by (put d q to out) refl
   where
-    by : (o : Outcome) → put d q to out ≡ o → Spread d q d' q' × Unit {0} × ((s o : ℕ) → Names (Forks out to next) s o → get_or d' s 0 ≡ o + 1)
+    by : (o : Outcome) → put d q to out ≡ o → Spread d q d' q' × Unit {0} × ((s o : ℕ) → Names (Ok (Forks out to next)) s o → get_or d' s 0 ≡ o + 1)
     by (stop v) g = absurd (let y : ◌≡◌ {A = ℕ} 0 1 = cc (follow_forks_stop d q out to next v g) in omega arith)
     by (go d₁ q₁) g =
         let p = put_spreads d q to out d₁ q₁ (omega arith) g in

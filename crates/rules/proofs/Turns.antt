@@ -6,8 +6,7 @@ use mathlib.Core.List.{List, [], ◌∷◌}
 use Prim.Native.Nat.{ℕ, zero, suc, ◌+◌, ◌-◌, ◌≤◌, ◌<◌}
 use native.Mathlib.Omega.{arith}
 use lib.ListN.{length, get_or}
-use Rattle.rules.specs.declared.Look.{Look}
-use Rattle.rules.specs.Look.{Bounded}
+use Rattle.rules.specs.Look.{Bounded, Look}
 use Rattle.rules.specs.Walk.{Outcome, stop, go, ended, follow, walk_from, walk_of, begun, count}
 use Rattle.rules.proofs.Counting.{count_le, length_begun, count_begun}
 use Rattle.rules.proofs.Queue.{walk_empty}

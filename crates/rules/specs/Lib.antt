@@ -1,3 +1,4 @@
+pub mod Stops
 pub mod Look
 pub mod Walk
 pub mod Assigned

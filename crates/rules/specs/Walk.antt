@@ -1,11 +1,13 @@
 -- The first-in first-out walk, over any rules of an offset and a depth. `depths` has for each offset 0, or one more than its depth; `queue` holds offsets.
 -- Assumes nothing.
-use Rattle.std.specs.Prelude.{ℕ, zero, suc, ◌+◌, ◌-◌, cond, List, [], ◌∷◌, ◌++◌, get_or, set, replicate, eqb}
+use Rattle.std.specs.Prelude.{ℕ, zero, suc, ◌+◌, ◌-◌, cond, List, [], ◌∷◌, ◌++◌, get_or, set, replicate, eqb, Result, Ok, Err}
+use Rattle.rules.specs.declared.Onward.TheVariants.{Leaves, Goes, Forks}
+use Rattle.rules.specs.Look.{Look}
 use Rattle.rules.specs.declared.Violation.{Violation}
-use Rattle.rules.specs.declared.Look.{Look}
-use Rattle.rules.specs.declared.Look.TheVariants.{Bad, Leaves, Goes, Forks}
-use Rattle.rules.specs.declared.Walked.{Walked}
-use Rattle.rules.specs.declared.Walked.TheVariants.{Accepted, Violated}
+
+-- what a body's walk answers
+abbrev pub Walked : Type 0
+Walked = Result (Unit {0}) Violation
 
 -- a violation, or the depths and the queue with which the walk goes on
 pub data Outcome : Type 0 where
@@ -17,7 +19,7 @@ then (stop v) k = stop v
 then (go depths queue) k = k depths queue
 
 abbrev pub ended : Outcome → (List ℕ → List ℕ → Walked) → Walked
-ended (stop v) k = Violated v
+ended (stop v) k = Err v
 ended (go depths queue) k = k depths queue
 
 -- a successor without a depth gets one and joins the queue; with another depth, 8 at that successor
@@ -28,15 +30,15 @@ put depths queue to out =
 
 -- the successors in order
 unfoldable pub follow : List ℕ → List ℕ → Look → Outcome
-follow depths queue (Bad v) = stop v
-follow depths queue Leaves = go depths queue
-follow depths queue (Goes out to) = put depths queue to out
-follow depths queue (Forks out to next) = then (put depths queue to out) (λ d q. put d q next out)
+follow depths queue (Err v) = stop v
+follow depths queue (Ok Leaves) = go depths queue
+follow depths queue (Ok (Goes out to)) = put depths queue to out
+follow depths queue (Ok (Forks out to next)) = then (put depths queue to out) (λ d q. put d q next out)
 
 -- in at most so many turns; each offset joins the queue at most once, so a turn for each suffices (proofs/Turns.antt)
 unfoldable pub walk_from : (ℕ → ℕ → Look) → ℕ → List ℕ → List ℕ → Walked
-walk_from rule zero depths queue = Accepted
-walk_from rule (suc left) depths [] = Accepted
+walk_from rule zero depths queue = Ok tt
+walk_from rule (suc left) depths [] = Ok tt
 walk_from rule (suc left) depths (offset ∷ queue) =
     ended (follow depths queue (rule offset (get_or depths offset 0 - 1))) (λ d q. walk_from rule left d q)
 

@@ -1,20 +1,22 @@
-// 01's rules of the operand stack: what an effect is known to be, what stands against an instruction at an offset and a depth, and what a walk
-// answers. The rules themselves are definitions (specs/Look.antt, specs/Walk.antt); what acceptance means is proved in proofs/Exact.antt.
+// 01's rules of the operand stack: why an instruction has no effect, what stands against one at an offset and a depth, and where control goes on.
+// The rules themselves are definitions (specs/Look.antt, specs/Walk.antt); what acceptance means is proved in proofs/Exact.antt.
 #![tactic(auto)]
 
-use flow::Spot;
-use tables::Effect;
+ghost use Rattle.std.specs.Prelude.{◌≡◌};
+ghost use Rattle.rules.specs.Stops.{of_stop};
 
-// An instruction's effect in its program, or why it has none.
-#[derive(Drop)]
-pub enum Known {
-    Moves(Effect),
-    UnknownBuiltin(u16),
-    UnknownCallee(u16),
+use flow::Spot;
+use flow::starts::Stop;
+
+// Why an instruction has no effect in its program: no row of the code list, or of the directory, has the id that it names.
+#[derive(Clone, Copy, PartialEq, Eq, Debug)]
+pub enum Unknown {
+    Builtin(u16),
+    Callee(u16),
 }
 
 // What stands against a body, each with the offset in it. Depths are as wide as a sum of them.
-#[derive(Drop)]
+#[derive(Clone, Copy, PartialEq, Eq, Debug)]
 pub enum Violation {
     UnknownOpcode {
         offset: usize,
@@ -59,18 +61,24 @@ pub enum Violation {
     },
 }
 
-// What the rules say of an offset at a depth: a violation, the end of a path, or the depth after and the successors.
-#[derive(Drop)]
-pub enum Look {
-    Bad(Violation),
+// A decoding stop before a body's end stands against it.
+impl From<Stop> for Violation {
+    ghost from_gives = { λ stop violation. violation ≡ of_stop stop };
+
+    fn from(stop: Stop) -> Violation {
+        match stop {
+            Stop::Unknown { offset, byte } => Violation::UnknownOpcode { offset, byte },
+            Stop::Truncated { offset, opcode } => {
+                Violation::TruncatedInstruction { offset, opcode }
+            }
+        }
+    }
+}
+
+// Where control goes on where no rule is broken: out of the body, or to its successors at the depth after.
+#[derive(Clone, Copy, PartialEq, Eq, Debug)]
+pub enum Onward {
     Leaves,
     Goes { out: u64, to: usize },
     Forks { out: u64, to: usize, next: usize },
-}
-
-// What a body's walk answers.
-#[derive(Drop)]
-pub enum Walked {
-    Accepted,
-    Violated(Violation),
 }

@@ -12,10 +12,10 @@ loop-row-init c = filling_none _ _ _
 
 pub loop-row-preserved : goal.loop-row-preserved
 loop-row-preserved c = let l = c.loop-row in
-    let a = c.args in
-    let v = c.gives_back-value.ensures ∙ ap (gives_back (size_in a.sizes.now) a.code.now (get_or a.offsets.now l.row 0)) c.at.ensures in
-    filling_more _ (length a.offsets.now) _ l.row l.given c.put.new.column l.invariant c.loop-row-test.true (c.put.ensures ∙ ap (set l.given l.row) v)
+    let p = c.args.program.now in
+    let v = c.gives_back-value.ensures ∙ ap (gives_back (size_in c.args.sizes.now) p.code.now (get_or p.functions.offsets.now l.row 0)) c.at-length.ensures in
+    filling_more _ (length p.functions.offsets.now) _ l.row l.given c.put.new.column l.invariant c.loop-row-test.true (c.put.ensures ∙ ap (set l.given l.row) v)
 
 pub returns : goal.returns
 unfolding filled
-returns c = filling_all _ (length c.args.offsets.now) _ c.loop-row.row _ c.loop-row.invariant c.loop-row-test.false
+returns c = filling_all _ (length c.args.program.now.functions.offsets.now) _ c.loop-row.row _ c.loop-row.invariant c.loop-row-test.false
