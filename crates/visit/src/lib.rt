@@ -8,8 +8,6 @@ ghost use Rattle.visit.specs.Visit.{visit_of};
 ghost use Rattle.visit.specs.Cells.{graph_in, graph_of, row_at, entry_rows};
 ghost use Rattle.visit.specs.Marks.{Kept, Visits, Walks, AtRest, Meets};
 
-use codes::Place;
-
 // Why there is no total: 21, with the row of the callee still open; 20, with the row of the function that closed above the pool and its total.
 #[derive(Clone, Copy, PartialEq, Eq, Debug)]
 pub enum Overrun {
@@ -105,10 +103,9 @@ fn met(graph: &CallGraph<'_>, f: usize, state: State) -> Result<(u16, State), Ov
 fn entry_row(ids: &[u16], id: u16) -> usize
     ensures { result ≡ row_at (seat_of ids.now id) }
 {
-    let place = program::function_row(ids, id);
-    match place {
-        Place::Row(f) => f,
-        Place::Nowhere => 128,
+    match program::function_row(ids, id) {
+        Some(row) => row,
+        None => 128,
     }
 }
 
