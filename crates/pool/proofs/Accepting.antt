@@ -3,7 +3,6 @@
 -- and the chains by the visit's theorem, whose entries are exactly the rows of the entries that are in the directory.
 -- Assumes nothing. The pool is a u16, so at most 65,535, of which the definition over any numbers knows nothing: it is said as a hypothesis.
 use Rattle.std.specs.Prelude.{Ok, Some, Err}
-use Rattle.codes.specs.First.{Place}
 use Prim.Native.Nat.{ℕ, ◌≤◌, ◌<◌}
 use native.Mathlib.Omega.{arith}
 use mathlib.Core.Path.{◌≡◌, refl, sym, subst, ap, ◌∙◌}
@@ -136,10 +135,10 @@ module _ (q : PoolProgram) where
         where
           fine : (v : Visited) → visited ≡ v → on_visited ids (λ f. peak_of (walk_at q f)) q.pool v ≡ Ok tt → (t : ℕ) × (visited ≡ Ok t)
           fine (Ok n) g e = (n, g)
-          fine (Err (Overrun.Cycle f)) g e = absurd (let z : ◌≡◌ {A = ℕ} 0 1 = cc in omega arith)
-          fine (Err (Overrun.Over f n)) g e = absurd (let z : ◌≡◌ {A = ℕ} 0 1 = cc in omega arith)
-      sound_by _ (strays row h on w) e t = absurd (let z : ◌≡◌ {A = ℕ} 0 1 = cc in omega arith)
-      sound_by _ (crowds row h on w) e t = absurd (let z : ◌≡◌ {A = ℕ} 0 1 = cc in omega arith)
+          fine (Err (Overrun.Cycle f)) g e = cc
+          fine (Err (Overrun.Over f n)) g e = cc
+      sound_by _ (strays row h on w) e t = cc
+      sound_by _ (crowds row h on w) e t = cc
 
       pub pool_exact : (pool_answer q room cells ≡ Ok tt) ↔ PoolSound q room cells
       pool_exact = (sound, complete)

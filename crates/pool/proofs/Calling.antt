@@ -5,15 +5,13 @@ use Rattle.std.specs.Prelude.{Ok, Err, Result}
 use Prim.Native.Nat.{ℕ, zero, suc, ◌+◌, ◌*◌, ◌≤◌, ◌<◌}
 use native.Mathlib.Omega.{arith}
 use native.Mathlib.Decide.{dec_lt}
-use native.Mathlib.Nat.{eq-or-lt_of_le}
 use mathlib.Core.Path.{◌≡◌, refl, ◌∙◌, ap, ap₂, sym, fun_ext}
-use mathlib.Core.Bool.{true, false, cond, true≢false}
+use mathlib.Core.Bool.{cond}
 use mathlib.Core.List.{List, [], ◌∷◌}
-use mathlib.Core.Logic.{⊎_elim}
 use lib.Dec.{ltb}
 use lib.ListN.{length, get_or, take, drop, get_or-eq_default}
 use borrow.Author.Tests.{lt-ltb, le-ltb}
-use Rattle.cells.specs.Zeros.{zeros, length_zeros, ZeroAfter}
+use Rattle.cells.specs.Zeros.{ZeroAfter}
 use Rattle.tables.specs.declared.Move.{Move}
 use Rattle.tables.specs.declared.TempEffect.{TempEffect}
 use Rattle.tables.specs.Set.{size_of, move_of, temp_of}
@@ -25,7 +23,7 @@ use Rattle.codes.specs.Lookup.{place_of, hinted_of}
 use Rattle.program.specs.declared.Room.{Room}
 use Rattle.program.specs.Program.{Program, PoolProgram, body_of, body_is}
 use Rattle.program.specs.declared.Refusal.{Refusal}
-use Rattle.program.specs.Refusals.{room_of, pool_input, Input}
+use Rattle.program.specs.Refusals.{pool_input, Input}
 use Rattle.program.specs.Seat.{seat_of}
 use Rattle.program.specs.Laws.{seat_place}
 use Rattle.program.specs.Taken.{StackTaken, PoolTaken}
@@ -34,7 +32,7 @@ use Rattle.buffers.specs.Tread.{Temps, Opens, treads, tread_of}
 use Rattle.buffers.specs.declared.Way.{Way}
 use Rattle.buffers.specs.declared.Tread.{Tread}
 use Rattle.buffers.specs.declared.Unwalked.{Unwalked}
-use Rattle.buffers.specs.Walk.{entry, follow, used, unused, Walked, walked, walk_from, begun, turns_of, walk_of, used_of, callees_of, Used, uses}
+use Rattle.buffers.specs.Walk.{entry, follow, used, unused, Walked, walked, walk_from, begun, turns_of, walk_of, used_of, callees_of, Used}
 use Rattle.buffers.proofs.Cases.{tread_end}
 use Rattle.buffers.proofs.Queue.{follow_ends, walk_done, walk_goes, walk_begun, turns_are, used_other, noted_none, begun_first}
 use Rattle.callees.specs.Callees.{temps_by, opens_by, temps_of, opens_of}
@@ -47,7 +45,6 @@ use Rattle.pool.specs.declared.Fault.{Fault}
 use Rattle.pool.proofs.Directory.{Judged}
 use Rattle.pool.specs.declared.bodies.Usages.{Usages}
 use Rattle.pool.specs.Plain.{PlainGoesOn, plain_goes_on}
-use Rattle.pool.specs.Columns.{Cleared, Roomy}
 use Rattle.pool.specs.Pool.{on_decoded, body_walk, weight_of, peak_of, rows_in, graph_of, on_used, functions_from, on_visited, program_answer, entries_of, walk_at, on_input, taken_answer, pool_answer, scratch_after, Verdict}
 use Rattle.pool.specs.Usages.{walks_by, Told, Recorded, IfWalked, Found, judged_of}
 
@@ -190,27 +187,7 @@ module _ (q : PoolProgram) (room : Room) (t : StackTaken q.program room) (sizes 
       ∙ judged_by usages (walk_at q) ids cells q.pool (entries_of ids q.entries) g.told g.recorded
       (λ k h. past_peak q k (omega (arith, t.lengths_length)))
 
--- ---- the scratch of an input that is taken, cleared
-pub taken_room : (q : PoolProgram) (m d p c k : ℕ) (marks numbers places carried cells : List ℕ) → PoolTaken q (room_of m d p c) k → marks ≡ zeros m → numbers ≡ zeros d → length places ≡ p → length carried ≡ c → cells ≡ zeros k
-    → Cleared marks numbers × (Roomy (length q.program.code) marks numbers places carried × ((16384 ≤ length cells) × (cells ≡ zeros (length cells))))
-taken_room q m d p c k marks numbers places carried cells t em ed ep ec ek =
-    let lm = length_zeros marks m em in
-    let ld = length_zeros numbers d ed in
-    let lk = length_zeros cells k ek in
-    let s = t.stack in (
-      record { marks_zero = em ∙ ap zeros (sym lm); numbers_zero = ed ∙ ap zeros (sym ld) },
-      (
-        record { marks_room = omega (arith, s.marks_room); numbers_room = omega (arith, s.depths_room); places_room = omega (arith, s.queue_room); carried_room = omega (arith, s.queue_depths_room); small = omega (arith, s.code_length) },
-        (omega (arith, t.cells_room), ek ∙ ap zeros (sym lk)),
-      ),
-    )
-
-pub pool_below : (q : PoolProgram) (room : Room) (k : ℕ) → PoolTaken q room k → q.pool ≤ 65535 → q.pool < 65535
-pool_below q room k t h = below q.pool t.pool_limit h
-  where
-    below : (n : ℕ) → (n ≡ 65535 → ⊥) → n ≤ 65535 → n < 65535
-    below n d l = ⊎_elim (λ e. absurd (d e)) (λ h. h) (eq-or-lt_of_le l)
-
+-- ---- an input that is refused, and one that is taken
 module _ (q : PoolProgram) (room : Room) (k : ℕ) where
   pub call_refused : (refusal : Refusal) → Err refusal ≡ pool_input q room k → Err (Fault.Refused refusal) ≡ pool_answer q room k
   unfolding pool_answer

@@ -11,7 +11,7 @@ use mathlib.Core.List.{List}
 use lib.ListN.{get_or}
 use Rattle.buffers.specs.declared.Usage as told
 use Rattle.buffers.specs.declared.Unwalked.{Unwalked}
-use Rattle.buffers.specs.Walk.{Walked, used_of, Used, uses}
+use Rattle.buffers.specs.Walk.{Walked, used_of, Used}
 use Rattle.pool.specs.declared.Fault.{Fault}
 use Rattle.pool.specs.Pool.{on_used, functions_from, Verdict}
 

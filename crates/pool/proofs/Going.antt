@@ -7,25 +7,19 @@ use native.Mathlib.Decide.{ℕ_discrete}
 use native.Mathlib.Numerals.{add-one}
 use mathlib.Core.Path.{◌≡◌, refl, ◌∙◌, ap, ap₂, sym}
 use mathlib.Core.List.{List}
-use lib.ListN.{length, get_or, set, take, drop, length-set, length-take, length-drop, replicate}
+use lib.ListN.{length, get_or, set, take, drop, length-set, replicate}
 use lib.Seq.{get_or-set_same, get_or-set_other}
 use Rattle.cells.specs.Zeros.{zeros, zeros_are, length_zeros, any_zero}
 use Rattle.buffers.specs.declared.Usage as told
 use Rattle.buffers.specs.declared.Unwalked.{Unwalked}
-use Rattle.buffers.specs.Walk.{Walked, undecodable, crowded, unfinished, walked, used_of, callees_of, Used, uses}
+use Rattle.buffers.specs.Walk.{Walked, undecodable, crowded, unfinished, walked, used_of, callees_of, Used}
 use Rattle.visit.specs.Cells.{callees_in}
 use Rattle.pool.specs.declared.Fault.{Fault}
 use Rattle.pool.specs.declared.bodies.Usages.{Usages}
-use Rattle.pool.specs.Columns.{Walks, RowHolds, Listed, Cleared, Roomy, Blank, Laid, Lays}
+use Rattle.pool.specs.Columns.{Walks, RowHolds, Listed, Cleared, Laid, Lays}
 use Rattle.pool.specs.Pool.{weight_of, peak_of, rows_in, fault_of, on_used, functions_from, Verdict}
 use Rattle.pool.specs.Usages.{walks_by, Told, IfWalked, Found}
 use Rattle.pool.proofs.Rows.{row_read, row_empty, row_stays}
-
--- a body that is a part of the code has room where the code has
-pub roomy_part : (marks numbers places carried code : List ℕ) (from n : ℕ) (body : List ℕ) → body ≡ take n (drop from code) → Roomy (length code) marks numbers places carried → Roomy (length body) marks numbers places carried
-roomy_part marks numbers places carried code from n body e r =
-    let l : length body ≤ length code = rw e (simp (length-take, length-drop) (omega arith)) in
-    record { marks_room = omega (arith, r); numbers_room = omega (arith, r); places_room = omega (arith, r); carried_room = omega (arith, r); small = omega (arith, r) }
 
 -- the body of a row
 pub row_walk : (walk : List ℕ → Walked) (offsets lengths code : List ℕ) (row offset n : ℕ) (body : List ℕ) (r : Used) (at : ℕ) (first last : List ℕ) → offset ≡ get_or offsets row 0 → n ≡ get_or lengths row 0 → body ≡ take n (drop offset code)
@@ -98,19 +92,6 @@ set_by column row value on l h v f k (no n) = get_or-set_other column row f valu
 
 module _ (walk : ℕ → Walked) (ids marks₀ numbers₀ places₀ carried₀ cells₀ marks numbers places carried cells weights peaks : List ℕ) (row : ℕ)
     (g : Going walk ids marks₀ numbers₀ places₀ carried₀ cells₀ marks numbers places carried cells weights peaks row) where
-  pub going_cleared : Cleared marks numbers
-  going_cleared =
-      record { marks_zero = g.marks_zero ∙ ap zeros (sym (length_zeros marks (length marks₀) g.marks_zero)); numbers_zero = g.numbers_zero ∙ ap zeros (sym (length_zeros numbers (length numbers₀) g.numbers_zero)) }
-
-  pub going_room : (n : ℕ) → Roomy n marks₀ numbers₀ places₀ carried₀ → Roomy n marks numbers places carried
-  going_room n r =
-      let m = length_zeros marks (length marks₀) g.marks_zero in
-      let d = length_zeros numbers (length numbers₀) g.numbers_zero in
-      record { marks_room = omega (arith, r); numbers_room = omega (arith, r); places_room = omega (arith, r, g.places_same); carried_room = omega (arith, r, g.carried_same); small = r.small }
-
-  pub going_blank : row < 128 → 16384 ≤ length cells₀ → Blank row cells
-  going_blank h l = record { within = omega (arith, g.cells_same); blank = g.blank }
-
   -- every function was walked
   pub going_end : length ids ≤ row → length ids ≤ 128 → (usages : Usages) → usages.weights ≡ weights → usages.peaks ≡ peaks → Found (Ok usages) cells walk ids
   unfolding Told IfWalked

@@ -11,7 +11,7 @@ use mathlib.Core.List.{List, [], ◌∷◌, ◌++◌}
 use mathlib.Core.Logic.{◌⊎◌, inl, inr, ⊎_elim}
 use lib.Dec.{eqb}
 use lib.ListN.{length, get_or, set, take, length-set, length-append}
-use lib.Seq.{take-suc, take-suc-set, get_or-set_other, length-take-le, get_or-take}
+use lib.Seq.{take-suc-set, get_or-set_other, length-take-le}
 use borrow.Author.Tests.{eqb-true, eqb-false, ne_eqb}
 use Rattle.buffers.specs.Walk.{has, noted}
 use Rattle.buffers.proofs.Queue.{noted_none, noted_met, noted_new, has_here, has_later}
@@ -43,10 +43,6 @@ has_either c d cells e = by (has c cells) refl (eqb d c) refl (sym (has_snoc c d
     by true p b q h = inl p
     by false p true q h = inr (eqb-true d c q)
     by false p false q h = absurd (true≢false (sym h ∙ rw (p, q) refl))
-
-has_last : (d : ℕ) (cells : List ℕ) → has d (cells ++ (d ∷ [])) ≡ true
-has_last d [] = has_here d d [] refl
-has_last d (x ∷ cells) = or_else (eqb x d) (has d (cells ++ (d ∷ []))) (has_last d cells)
 
 -- has is said of the head and of the rest
 has_not : (d x : ℕ) (cells : List ℕ) → has d (x ∷ cells) ≡ false → (x ≡ d → ⊥) × (has d cells ≡ false)
@@ -89,9 +85,6 @@ module _ (row : List ℕ) (met cell : ℕ) (l : Listed row met) where
   note_met b e t = (l, sym (noted_met cell (take met row) (sym e ∙ t)))
 
   module _ (some : cell ≡ 0 → ⊥) (small : cell ≤ 128) (new : has cell (take met row) ≡ false) where
-    grown : List ℕ
-    grown = take met row ++ (cell ∷ [])
-
     grown_cells : (c : ℕ) → has c (take met row ++ (cell ∷ [])) ≡ true → (1 ≤ c) × (c ≤ 128)
     grown_cells c i = ⊎_elim (λ h. l.cells c h) (λ e. (omega arith, omega arith)) (has_either c cell (take met row) i)
 

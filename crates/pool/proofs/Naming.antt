@@ -20,7 +20,7 @@ use Rattle.flow.proofs.Next.{body_fits}
 use Rattle.codes.specs.LookupLaws.{place_row, place_in, place_has}
 use Rattle.program.specs.declared.Room.{Room}
 use Rattle.program.specs.Program.{PoolProgram, body_of}
-use Rattle.program.specs.Refusals.{pool_input, Input}
+use Rattle.program.specs.Refusals.{pool_input}
 use Rattle.program.specs.Laws.{distinct}
 use Rattle.program.proofs.Taken.{pool_taken}
 use Rattle.buffers.specs.Walk.{undecodable, crowded, used_of}
@@ -72,13 +72,13 @@ module _ (q : PoolProgram) where
         by _ (visits w) e t = absurd (never (visited q) e)
           where
             never : (v : Visited) → on_visited ids (λ f. peak_of (walk_at q f)) q.pool v ≡ Err (Fault.Undecodable function) → ⊥
-            never (Ok n) e = let z : ◌≡◌ {A = ℕ} 0 1 = cc in omega arith
-            never (Err (Overrun.Cycle f)) e = let z : ◌≡◌ {A = ℕ} 0 1 = cc in omega arith
-            never (Err (Overrun.Over f n)) e = let z : ◌≡◌ {A = ℕ} 0 1 = cc in omega arith
+            never (Ok n) e = cc
+            never (Err (Overrun.Cycle f)) e = cc
+            never (Err (Overrun.Over f n)) e = cc
         by _ (strays row h on w) e t =
             let z : get_or ids row 0 ≡ function = cc in
             record { row = row; named = rw (← z) (named t row h); earlier = on; holds = (w, row_strays row w) }
-        by _ (crowds row h on w) e t = absurd (let z : ◌≡◌ {A = ℕ} 0 1 = cc in omega arith)
+        by _ (crowds row h on w) e t = cc
 
     pub names_queue_full : (function : ℕ)
         → (pool_answer q room cells ≡ Err (Fault.QueueFull function)) ↔ ((pool_input q room cells ≡ Ok tt) × FirstRow q (Crowds q) function)
@@ -92,10 +92,10 @@ module _ (q : PoolProgram) where
         by _ (visits w) e t = absurd (never (visited q) e)
           where
             never : (v : Visited) → on_visited ids (λ f. peak_of (walk_at q f)) q.pool v ≡ Err (Fault.QueueFull function) → ⊥
-            never (Ok n) e = let z : ◌≡◌ {A = ℕ} 0 1 = cc in omega arith
-            never (Err (Overrun.Cycle f)) e = let z : ◌≡◌ {A = ℕ} 0 1 = cc in omega arith
-            never (Err (Overrun.Over f n)) e = let z : ◌≡◌ {A = ℕ} 0 1 = cc in omega arith
-        by _ (strays row h on w) e t = absurd (let z : ◌≡◌ {A = ℕ} 0 1 = cc in omega arith)
+            never (Ok n) e = cc
+            never (Err (Overrun.Cycle f)) e = cc
+            never (Err (Overrun.Over f n)) e = cc
+        by _ (strays row h on w) e t = cc
         by _ (crowds row h on w) e t =
             let z : get_or ids row 0 ≡ function = cc in
             record { row = row; named = rw (← z) (named t row h); earlier = on; holds = (row_crowds row).0 w }
@@ -109,7 +109,7 @@ module _ (q : PoolProgram) where
         by _ (visits w) e t = cycle (visited q) refl e
           where
             cycle : (v : Visited) → visited q ≡ v → on_visited ids (λ f. peak_of (walk_at q f)) q.pool v ≡ Err (Fault.RecursiveCallGraph function) → Recurs q function
-            cycle (Ok n) g e = absurd (let z : ◌≡◌ {A = ℕ} 0 1 = cc in omega arith)
+            cycle (Ok n) g e = cc
             cycle (Err (Overrun.Cycle row)) g e =
                 let c = visiting.names_cycle (call_graph q) q.pool (entries_of ids q.entries) row g in
                 let i = among_entered ids q.entries c.0 c.1 c.2 in
@@ -123,9 +123,9 @@ module _ (q : PoolProgram) where
                   onward = c.4.1;
                   back = c.4.2;
                 }
-            cycle (Err (Overrun.Over f n)) g e = absurd (let z : ◌≡◌ {A = ℕ} 0 1 = cc in omega arith)
-        by _ (strays row h on w) e t = absurd (let z : ◌≡◌ {A = ℕ} 0 1 = cc in omega arith)
-        by _ (crowds row h on w) e t = absurd (let z : ◌≡◌ {A = ℕ} 0 1 = cc in omega arith)
+            cycle (Err (Overrun.Over f n)) g e = cc
+        by _ (strays row h on w) e t = cc
+        by _ (crowds row h on w) e t = cc
 
     pub names_overrun : q.pool ≤ 65535 → (function offset depth declared : ℕ)
         → pool_answer q room cells ≡ Err (Fault.ExceedsDeclaredPool function offset depth declared) → Overruns q function offset depth declared
@@ -140,8 +140,8 @@ module _ (q : PoolProgram) where
             over : (v : Visited) → visited q ≡ v
                 → on_visited ids (λ f. peak_of (walk_at q f)) q.pool v ≡ Err (Fault.ExceedsDeclaredPool function offset depth declared)
                 → Overruns q function offset depth declared
-            over (Ok n) g e = absurd (let z : ◌≡◌ {A = ℕ} 0 1 = cc in omega arith)
-            over (Err (Overrun.Cycle f)) g e = absurd (let z : ◌≡◌ {A = ℕ} 0 1 = cc in omega arith)
+            over (Ok n) g e = cc
+            over (Err (Overrun.Cycle f)) g e = cc
             over (Err (Overrun.Over row n)) g e =
                 let c = visiting.names_overrun (call_graph q) q.pool (entries_of ids q.entries) (pool_below q room cells small t) row n g in
                 let i = among_entered ids q.entries c.0 c.1 c.2 in
@@ -159,5 +159,5 @@ module _ (q : PoolProgram) where
                   reported = sym d ∙ c.4.2;
                   passes = omega (arith, c.5);
                 }
-        by _ (strays row h on w) e t = absurd (let z : ◌≡◌ {A = ℕ} 0 1 = cc in omega arith)
-        by _ (crowds row h on w) e t = absurd (let z : ◌≡◌ {A = ℕ} 0 1 = cc in omega arith)
+        by _ (strays row h on w) e t = cc
+        by _ (crowds row h on w) e t = cc

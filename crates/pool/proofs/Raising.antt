@@ -131,9 +131,6 @@ module _ (numbers places carried : List ℕ) (head before sum : ℕ) (way : Way)
 pub leads_goes : (n x sum : ℕ) (way : Way) (to : ℕ) → way ≡ Way.Goes to → Leads n x sum way → (to < n) × (sum ≤ x)
 leads_goes n x sum way to e l = rw e at l
 
-pub leads_forks : (n x sum : ℕ) (way : Way) (to next : ℕ) → way ≡ Way.Forks to next → Leads n x sum way → (to < n) × ((next < n) × (sum ≤ x))
-leads_forks n x sum way to next e l = rw e at l
-
 -- ---- the entries that are skipped
 module _ (numbers : List ℕ) (e : Entry) (queue : List Entry) where
   pub skips : e.held + 1 < get_or numbers e.offset 0 → skipped numbers (e ∷ queue) ≡ skipped numbers queue

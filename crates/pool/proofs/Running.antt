@@ -13,7 +13,7 @@ use Rattle.flow.proofs.Next.{marks_fit, marks_are, body_fits}
 use Rattle.buffers.specs.declared.Usage as told
 use Rattle.buffers.specs.declared.Unwalked.{Unwalked}
 use Rattle.buffers.specs.Tread.{Temps, Opens, tread_of}
-use Rattle.buffers.specs.Walk.{Walked, undecodable, crowded, unfinished, walked, begun, walk_of, used_of, Used, uses}
+use Rattle.buffers.specs.Walk.{Walked, undecodable, crowded, unfinished, walked, begun, walk_of, used_of, Used}
 use Rattle.buffers.proofs.Queue.{begun_is}
 use Rattle.buffers.proofs.Theorems.{weight_small}
 use Rattle.pool.specs.Columns.{Walks, Fitting, Lays}

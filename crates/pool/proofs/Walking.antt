@@ -118,8 +118,8 @@ skipped_le numbers queue a b x y = let m = skipped_most numbers queue in omega a
 -- what joined an empty queue is within the pool
 grown_within : (room : ℕ) (numbers : List ℕ) (sum : ℕ) (way : Way) (n pool : ℕ) (numbers' : List ℕ) (e : Entry) (q : List Entry) → Leads n pool sum way → follow room numbers [] sum way ≡ go numbers' (e ∷ q) → sum ≤ pool
 unfolding follow
-grown_within room numbers sum Way.Ends n pool numbers' e q l h = absurd (let z : ◌≡◌ {A = ℕ} 0 1 = cc in omega arith)
-grown_within room numbers sum Way.Astray n pool numbers' e q l h = absurd (let z : ◌≡◌ {A = ℕ} 0 1 = cc in omega arith)
+grown_within room numbers sum Way.Ends n pool numbers' e q l h = cc
+grown_within room numbers sum Way.Astray n pool numbers' e q l h = cc
 grown_within room numbers sum (Way.Goes to) n pool numbers' e q l h = l.1
 grown_within room numbers sum (Way.Forks to next) n pool numbers' e q l h = l.1.1
 

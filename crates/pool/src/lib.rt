@@ -7,15 +7,14 @@ mod ring;
 mod tread;
 mod walk;
 
-ghost use Rattle.std.specs.Prelude.{◌≡◌, length, get_or};
+ghost use Rattle.std.specs.Prelude.{◌≡◌, length};
 ghost use Rattle.cells.specs.Zeros.{ZeroAfter};
 ghost use Rattle.program.specs.Refusals.{room_of};
 ghost use Rattle.program.specs.Stated.{pool_program_in, room_in, SameColumns};
 ghost use Rattle.program.specs.Taken.{PoolTaken};
-ghost use Rattle.visit.specs.Visit.{visit_of};
-ghost use Rattle.visit.specs.Cells.{graph_in, entry_rows};
 ghost use Rattle.pool.specs.declared.Fault.TheVariants.{Refused};
-ghost use Rattle.pool.specs.Pool.{fault_of, on_visited, taken_answer, pool_answer, scratch_after, fields_of};
+ghost use Rattle.pool.specs.Pool.{fault_of, taken_answer, pool_answer, scratch_after, fields_of};
+ghost use Rattle.pool.specs.Stated.{visit_in};
 ghost use Rattle.pool.specs.Usages.{judged_of};
 
 use answers::Fields;
@@ -62,16 +61,10 @@ impl Fault {
 
 // The visit's answer, with ids and peak offsets in the place of rows.
 fn visited(cells: &[u8], usages: &Usages, program: &PoolProgram<'_>) -> Result<(), Fault>
-    ensures { result ≡ on_visited program.now.program.functions.ids.now (λ f. get_or usages.now.peaks f 0) program.now.pool (visit_of (graph_in cells.now usages.now.weights) program.now.pool (entry_rows program.now.program.functions.ids.now program.now.entries.now)) }
+    ensures { result ≡ visit_in program.now cells.now usages.now }
 {
     let ids = program.program.functions.ids;
-    let seen = visit::visit_entries(
-        cells,
-        &usages.weights,
-        program.pool,
-        ids,
-        program.entries,
-    );
+    let seen = visit::visit_entries(cells, &usages.weights, program.pool, ids, program.entries);
     match seen {
         Ok(_) => Ok(()),
         Err(Overrun::Cycle(row)) => Err(Fault::RecursiveCallGraph(cells::at(ids, row))),
@@ -91,7 +84,7 @@ fn judged(
     usages: Result<Usages, Fault>,
     program: &PoolProgram<'_>,
 ) -> Result<(), Fault>
-    ensures { result ≡ judged_of usages (λ u. on_visited program.now.program.functions.ids.now (λ f. get_or u.peaks f 0) program.now.pool (visit_of (graph_in cells.now u.weights) program.now.pool (entry_rows program.now.program.functions.ids.now program.now.entries.now))) }
+    ensures { result ≡ judged_of usages (visit_in program.now cells.now) }
 {
     visited(cells, &usages?, program)
 }
@@ -113,7 +106,11 @@ fn checked(
     let sizes = tables::sizes();
     let words = tables::words();
     let mut hints = [0u16; 8192];
-    codes::note_for(&mut hints, program.program.list.ids, program.program.code.len());
+    codes::note_for(
+        &mut hints,
+        program.program.list.ids,
+        program.program.code.len(),
+    );
     cells::clear(marks);
     cells::clear(depths);
     cells::clear(cells);
@@ -122,15 +119,7 @@ fn checked(
         hints: &hints,
         program: *program,
     };
-    let usages = bodies::all(
-        marks,
-        depths,
-        queue,
-        queue_depths,
-        cells,
-        &sizes,
-        &sources,
-    );
+    let usages = bodies::all(marks, depths, queue, queue_depths, cells, &sizes, &sources);
     let verdict = judged(cells, usages, program);
     cells::clear(queue);
     cells::clear(queue_depths);
@@ -167,12 +156,14 @@ pub fn fields(verdict: Result<(), Fault>) -> Fields
     match verdict {
         Ok(()) => answers::accepted(),
         Err(Fault::Refused(refusal)) => answers::of_refusal(Err(refusal)),
-        Err(Fault::ExceedsDeclaredPool {
-            function,
-            offset,
-            depth,
-            declared,
-        }) => answers::fields_by(20, function, offset, depth as u64, declared as u64, 0),
+        Err(
+            Fault::ExceedsDeclaredPool {
+                function,
+                offset,
+                depth,
+                declared,
+            },
+        ) => answers::fields_by(20, function, offset, depth as u64, declared as u64, 0),
         Err(Fault::RecursiveCallGraph(function)) => answers::fields_by(21, function, 0, 0, 0, 0),
         Err(Fault::Undecodable(function)) => answers::fields_by(22, function, 0, 0, 0, 0),
         Err(Fault::QueueFull(function)) => answers::fields_by(23, function, 0, 0, 0, 0),
