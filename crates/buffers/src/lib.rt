@@ -3,6 +3,11 @@
 
 #![tactic(auto)]
 
+ghost use Rattle.std.specs.Prelude.{◌≡◌};
+ghost use Rattle.buffers.specs.declared.Unwalked.TheVariants.{Undecodable};
+
+use flow::starts::Stop;
+
 // Where control goes: the path ends, a branch has no legal target, one successor, or the branch target and the next instruction.
 #[derive(Clone, Copy, PartialEq, Eq, Debug)]
 pub enum Way {
@@ -33,4 +38,13 @@ pub struct Usage {
 pub enum Unwalked {
     Undecodable,
     QueueFull,
+}
+
+// "Undecodable: decoding stops".
+impl From<Stop> for Unwalked {
+    ghost from_gives = { λ _ unwalked. unwalked ≡ Undecodable };
+
+    fn from(_stop: Stop) -> Unwalked {
+        Unwalked::Undecodable
+    }
 }

@@ -2,8 +2,7 @@
 -- calls repeat a function or weigh more than the pool. The directory row by row (Directory.antt), each body by its walk's own theorems (Ending.antt),
 -- and the chains by the visit's theorem, whose entries are exactly the rows of the entries that are in the directory.
 -- Assumes nothing. The pool is a u16, so at most 65,535, of which the definition over any numbers knows nothing: it is said as a hypothesis.
-use Rattle.std.specs.Prelude.{Ok, Some}
-use Rattle.codes.specs.First.{Place}
+use Rattle.std.specs.Prelude.{Ok, Some, Err}
 use Prim.Native.Nat.{ℕ, ◌≤◌, ◌<◌}
 use native.Mathlib.Omega.{arith}
 use mathlib.Core.Path.{◌≡◌, refl, sym, subst, ap, ◌∙◌}
@@ -19,36 +18,22 @@ use Rattle.program.specs.Refusals.{pool_input, Input}
 use Rattle.program.proofs.Taken.{pool_taken}
 use Rattle.buffers.specs.Walk.{undecodable, crowded, used_of}
 use Rattle.callees.specs.Callees.{temps_of, opens_of}
-use Rattle.visit.specs.declared.Visited.{Visited}
+use Rattle.visit.specs.declared.Overrun.{Overrun}
 use Rattle.visit.specs.Graph.{Among}
-use Rattle.visit.specs.Visit.{visit_of}
+use Rattle.visit.specs.Visit.{visit_of, Visited}
 use Rattle.visit.specs.Cells.{row_at}
 use Rattle.visit.proofs.Laws.{row_known, known_row}
 use Rattle.visit.proofs.Theorems.{accepted}
-use Rattle.pool.specs.declared.Verdict.{Verdict}
-use Rattle.pool.specs.Pool.{peak_of, on_used, on_visited, program_answer, entries_of, walk_at, on_input, taken_answer, pool_answer}
+use Rattle.pool.specs.declared.Fault.{Fault}
+use Rattle.pool.specs.Pool.{peak_of, on_used, on_visited, program_answer, entries_of, walk_at, on_input, taken_answer, pool_answer, Verdict}
 use Rattle.pool.specs.Accepts.{function_count, WalkEnds, call_graph, Entered, PoolSound}
 use Rattle.pool.proofs.Ending.{body_walked, body_finished, used_walked, used_crowded, used_undecodable}
-use Rattle.pool.proofs.Directory.{Ended, From, all, stray, full, from, all_ended, up_to}
+use Rattle.pool.proofs.Directory.{Judged, Ended, From, all, stray, full, from, all_ended, up_to}
 
 -- ---- the input
--- no refusal
-abbrev pub Judged : Verdict → Type 0
-Judged (Verdict.Refused input) = ⊥
-Judged Verdict.Accepted = Unit {0}
-Judged (Verdict.ExceedsDeclaredPool function offset depth declared) = Unit {0}
-Judged (Verdict.RecursiveCallGraph function) = Unit {0}
-Judged (Verdict.Undecodable function) = Unit {0}
-Judged (Verdict.QueueFull function) = Unit {0}
-
 taken_by : (input : Input) (rest v : Verdict) → Judged v → on_input input rest ≡ v → (input ≡ Ok tt) × (rest ≡ v)
 taken_by (Ok _) rest v j e = (refl, e)
-taken_by Input.TooMany rest v j e = absurd (subst Judged (sym e) j)
-taken_by Input.ScratchShort rest v j e = absurd (subst Judged (sym e) j)
-taken_by (Input.ListFault k) rest v j e = absurd (subst Judged (sym e) j)
-taken_by (Input.IdRepeated k) rest v j e = absurd (subst Judged (sym e) j)
-taken_by (Input.BodyOutside k) rest v j e = absurd (subst Judged (sym e) j)
-taken_by Input.PoolTooLarge rest v j e = absurd (subst Judged (sym e) j)
+taken_by (Err refusal) rest v j e = absurd (subst Judged (sym e) j)
 
 pub pool_below : (q : PoolProgram) (room : Room) (cells : ℕ) → q.pool ≤ 65535 → pool_input q room cells ≡ Ok tt → q.pool < 65535
 pool_below q room cells small e = by q.pool small (pool_taken q room cells e).pool_limit
@@ -79,12 +64,12 @@ module _ (q : PoolProgram) where
 
   ended_walks : (row : ℕ) → EndedAt row → WalkEnds q row
   ended_walks row a =
-      let w = used_walked (walk_at q row) a.0 a.1 a.2 in
+      let w = used_walked (walk_at q row) a.0 a.1 in
       let d = body_walked size_of (temps_of q) (opens_of q) q.pool (body_of q.program row) w.0 w.1 w.2 in
       record { decodes = d.0; numbers = w.0; found = w.1; ends = w.2 }
 
   walks_ended : (row : ℕ) → WalkEnds q row → EndedAt row
-  walks_ended row w = (w.found.weight, w.found.peak, ap used_of w.ends)
+  walks_ended row w = (record { weight = w.found.weight; peak = w.found.peak }, ap used_of w.ends)
 
   -- the visit's answer
   abbrev pub visited : Visited
@@ -96,8 +81,8 @@ module _ (q : PoolProgram) where
   -- the three answers of an input that is taken
   pub data Answers : Verdict → Type 0 where
     visits : ((row : ℕ) → row < function_count q → WalkEnds q row) → Answers visit_answer
-    strays : (row : ℕ) → row < function_count q → ((j : ℕ) → j < row → WalkEnds q j) → walk_at q row ≡ undecodable → Answers (Verdict.Undecodable (get_or ids row 0))
-    crowds : (row : ℕ) → row < function_count q → ((j : ℕ) → j < row → WalkEnds q j) → walk_at q row ≡ crowded → Answers (Verdict.QueueFull (get_or ids row 0))
+    strays : (row : ℕ) → row < function_count q → ((j : ℕ) → j < row → WalkEnds q j) → walk_at q row ≡ undecodable → Answers (Err (Fault.Undecodable (get_or ids row 0)))
+    crowds : (row : ℕ) → row < function_count q → ((j : ℕ) → j < row → WalkEnds q j) → walk_at q row ≡ crowded → Answers (Err (Fault.QueueFull (get_or ids row 0)))
 
   taken_answers : Answers (taken_answer q)
   unfolding program_answer
@@ -140,7 +125,7 @@ module _ (q : PoolProgram) where
     entered_known t f i = let l = place_in ids i.0 f i.2 in omega (arith, (pool_taken q room cells t).stack.functions_limit)
 
     module _ (small : q.pool ≤ 65535) where
-      sound_by : (v : Verdict) → Answers v → v ≡ Verdict.Accepted → pool_input q room cells ≡ Ok tt → PoolSound q room cells
+      sound_by : (v : Verdict) → Answers v → v ≡ Ok tt → pool_input q room cells ≡ Ok tt → PoolSound q room cells
       sound_by _ (visits w) e t = record {
         taken = t;
         walks = w;
@@ -148,20 +133,20 @@ module _ (q : PoolProgram) where
             (entered_among ids q.entries f i.0 i.1 i.2) (entered_known t f i);
       }
         where
-          fine : (v : Visited) → visited ≡ v → on_visited ids (λ f. peak_of (walk_at q f)) q.pool v ≡ Verdict.Accepted → (t : ℕ) × (visited ≡ Visited.Fine t)
-          fine (Visited.Fine n) g e = (n, g)
-          fine (Visited.Cycle f) g e = absurd (let z : ◌≡◌ {A = ℕ} 0 1 = cc in omega arith)
-          fine (Visited.Over f n) g e = absurd (let z : ◌≡◌ {A = ℕ} 0 1 = cc in omega arith)
-      sound_by _ (strays row h on w) e t = absurd (let z : ◌≡◌ {A = ℕ} 0 1 = cc in omega arith)
-      sound_by _ (crowds row h on w) e t = absurd (let z : ◌≡◌ {A = ℕ} 0 1 = cc in omega arith)
+          fine : (v : Visited) → visited ≡ v → on_visited ids (λ f. peak_of (walk_at q f)) q.pool v ≡ Ok tt → (t : ℕ) × (visited ≡ Ok t)
+          fine (Ok n) g e = (n, g)
+          fine (Err (Overrun.Cycle f)) g e = cc
+          fine (Err (Overrun.Over f n)) g e = cc
+      sound_by _ (strays row h on w) e t = cc
+      sound_by _ (crowds row h on w) e t = cc
 
-      pub pool_exact : (pool_answer q room cells ≡ Verdict.Accepted) ↔ PoolSound q room cells
+      pub pool_exact : (pool_answer q room cells ≡ Ok tt) ↔ PoolSound q room cells
       pool_exact = (sound, complete)
         where
-          sound : pool_answer q room cells ≡ Verdict.Accepted → PoolSound q room cells
-          sound e = let a = answers Verdict.Accepted tt e in sound_by Verdict.Accepted a.1 refl a.0
+          sound : pool_answer q room cells ≡ Ok tt → PoolSound q room cells
+          sound e = let a = answers (Ok tt) tt e in sound_by (Ok tt) a.1 refl a.0
 
-          complete : PoolSound q room cells → pool_answer q room cells ≡ Verdict.Accepted
+          complete : PoolSound q room cells → pool_answer q room cells ≡ Ok tt
           complete s =
               let tame = (accepted (call_graph q) q.pool (entries_of ids q.entries) (pool_below q room cells small s.taken)).1
               (λ f i h. s.chains f (among_entered ids q.entries f i h)) in

@@ -1,19 +1,17 @@
 -- The whole call: what the code reads out of its tables and columns on an input that is taken is 01's, the visit over the filled cells is the visit of
 -- the definition's graph, and what the answer leaves of the scratch.
 -- Assumes nothing.
-use Rattle.std.specs.Prelude.{Ok}
+use Rattle.std.specs.Prelude.{Ok, Err, Result}
 use Prim.Native.Nat.{ℕ, zero, suc, ◌+◌, ◌*◌, ◌≤◌, ◌<◌}
 use native.Mathlib.Omega.{arith}
 use native.Mathlib.Decide.{dec_lt}
-use native.Mathlib.Nat.{eq-or-lt_of_le}
 use mathlib.Core.Path.{◌≡◌, refl, ◌∙◌, ap, ap₂, sym, fun_ext}
-use mathlib.Core.Bool.{true, false, cond, true≢false}
+use mathlib.Core.Bool.{cond}
 use mathlib.Core.List.{List, [], ◌∷◌}
-use mathlib.Core.Logic.{⊎_elim}
 use lib.Dec.{ltb}
 use lib.ListN.{length, get_or, take, drop, get_or-eq_default}
 use borrow.Author.Tests.{lt-ltb, le-ltb}
-use Rattle.cells.specs.Zeros.{zeros, length_zeros, ZeroAfter}
+use Rattle.cells.specs.Zeros.{ZeroAfter}
 use Rattle.tables.specs.declared.Move.{Move}
 use Rattle.tables.specs.declared.TempEffect.{TempEffect}
 use Rattle.tables.specs.Set.{size_of, move_of, temp_of}
@@ -24,30 +22,30 @@ use Rattle.flow.specs.Walk.{end_of, marks_of, Decoded}
 use Rattle.codes.specs.Lookup.{place_of, hinted_of}
 use Rattle.program.specs.declared.Room.{Room}
 use Rattle.program.specs.Program.{Program, PoolProgram, body_of, body_is}
-use Rattle.program.specs.Refusals.{is_taken, room_of, pool_input, Input}
+use Rattle.program.specs.declared.Refusal.{Refusal}
+use Rattle.program.specs.Refusals.{pool_input, Input}
 use Rattle.program.specs.Seat.{seat_of}
 use Rattle.program.specs.Laws.{seat_place}
-use Rattle.program.specs.Taken.{StackTaken, PoolTaken, taken_is}
+use Rattle.program.specs.Taken.{StackTaken, PoolTaken}
 use Rattle.program.proofs.Taken.{pool_taken}
 use Rattle.buffers.specs.Tread.{Temps, Opens, treads, tread_of}
 use Rattle.buffers.specs.declared.Way.{Way}
 use Rattle.buffers.specs.declared.Tread.{Tread}
-use Rattle.buffers.specs.declared.Used.{Used}
-use Rattle.buffers.specs.Walk.{entry, follow, used, unused, Walked, walked, walk_from, begun, turns_of, walk_of, used_of, callees_of}
+use Rattle.buffers.specs.declared.Unwalked.{Unwalked}
+use Rattle.buffers.specs.Walk.{entry, follow, used, unused, Walked, walked, walk_from, begun, turns_of, walk_of, used_of, callees_of, Used}
 use Rattle.buffers.proofs.Cases.{tread_end}
 use Rattle.buffers.proofs.Queue.{follow_ends, walk_done, walk_goes, walk_begun, turns_are, used_other, noted_none, begun_first}
 use Rattle.callees.specs.Callees.{temps_by, opens_by, temps_of, opens_of}
 use Rattle.callees.specs.Laws.{temps_are, opens_are}
-use Rattle.visit.specs.declared.Visited.{Visited}
-use Rattle.visit.specs.Visit.{visit_of}
+use Rattle.visit.specs.declared.Overrun.{Overrun}
+use Rattle.visit.specs.Visit.{visit_of, Visited}
 use Rattle.visit.specs.Cells.{callees_in, graph_in, row_at, entry_rows}
 use Rattle.visit.proofs.Laws.{same_graph}
-use Rattle.pool.specs.declared.Verdict.{Verdict}
-use Rattle.pool.specs.declared.bodies.Ended.{Ended}
+use Rattle.pool.specs.declared.Fault.{Fault}
+use Rattle.pool.proofs.Directory.{Judged}
 use Rattle.pool.specs.declared.bodies.Usages.{Usages}
 use Rattle.pool.specs.Plain.{PlainGoesOn, plain_goes_on}
-use Rattle.pool.specs.Columns.{Cleared, Roomy}
-use Rattle.pool.specs.Pool.{on_decoded, body_walk, weight_of, peak_of, rows_in, graph_of, on_used, functions_from, on_visited, program_answer, entries_of, walk_at, on_input, taken_answer, pool_answer, scratch_after}
+use Rattle.pool.specs.Pool.{on_decoded, body_walk, weight_of, peak_of, rows_in, graph_of, on_used, functions_from, on_visited, program_answer, entries_of, walk_at, on_input, taken_answer, pool_answer, scratch_after, Verdict}
 use Rattle.pool.specs.Usages.{walks_by, Told, Recorded, IfWalked, Found, judged_of}
 
 -- ---- the tables and the lookups
@@ -161,15 +159,14 @@ module _ (walk : ℕ → Walked) (n : ℕ) (cells weights peaks : List ℕ) (k :
       ap₂ (λ (peaks : ℕ → ℕ) (v : Visited). on_visited ids peaks pool v) (peaks_same past) (same_graph (graph_in cells weights) (graph_of walk n) pool calls_same weight_same rows)
 
 -- ---- what the bodies and the visit come to is the program's answer
-judged_by : (ended : Ended) (walk : ℕ → Walked) (ids cells weights peaks : List ℕ) (pool : ℕ) (rows : List ℕ) → Told ended walk ids → IfWalked ended (Recorded walk (length ids) cells weights peaks)
+judged_by : (usages : Result Usages Fault) (walk : ℕ → Walked) (ids cells : List ℕ) (pool : ℕ) (rows : List ℕ) → Told usages walk ids → IfWalked usages (λ u. Recorded walk (length ids) cells u.weights u.peaks)
     → ((f : ℕ) → length ids ≤ f → peak_of (walk f) ≡ 0)
-    → judged_of ended (on_visited ids (λ f. get_or peaks f 0) pool (visit_of (graph_in cells weights) pool rows)) ≡ program_answer walk ids pool rows
+    → judged_of usages (λ u. on_visited ids (λ f. get_or u.peaks f 0) pool (visit_of (graph_in cells u.weights) pool rows)) ≡ program_answer walk ids pool rows
 unfolding Told IfWalked judged_of program_answer
-judged_by Ended.Walked walk ids cells weights peaks pool rows told k past = visits_same walk (length ids) cells weights peaks k ids pool rows past ∙ sym (told (on_visited ids (λ f. peak_of (walk f)) pool (visit_of (graph_of walk (length ids)) pool rows)))
-judged_by (Ended.Undecodable function) walk ids cells weights peaks pool rows told k past = sym (told (on_visited ids (λ f. peak_of (walk f)) pool (visit_of (graph_of walk (length ids)) pool rows)))
-judged_by (Ended.QueueFull function) walk ids cells weights peaks pool rows told k past = sym (told (on_visited ids (λ f. peak_of (walk f)) pool (visit_of (graph_of walk (length ids)) pool rows)))
+judged_by (Ok u) walk ids cells pool rows told k past = visits_same walk (length ids) cells u.weights u.peaks k ids pool rows past ∙ sym (told (on_visited ids (λ f. peak_of (walk f)) pool (visit_of (graph_of walk (length ids)) pool rows)))
+judged_by (Err fault) walk ids cells pool rows told k past = sym (told (on_visited ids (λ f. peak_of (walk f)) pool (visit_of (graph_of walk (length ids)) pool rows)))
 
-module _ (q : PoolProgram) (room : Room) (t : StackTaken q.program room) (sizes words hints cells : List ℕ) (usages : Usages) (es : sizes ≡ size_table) (ew : words ≡ word_table) where
+module _ (q : PoolProgram) (room : Room) (t : StackTaken q.program room) (sizes words hints cells : List ℕ) (usages : Result Usages Fault) (es : sizes ≡ size_table) (ew : words ≡ word_table) where
   abbrev ids : List ℕ
   ids = q.program.functions.ids
 
@@ -179,77 +176,41 @@ module _ (q : PoolProgram) (room : Room) (t : StackTaken q.program room) (sizes 
       q.program.functions.offsets q.program.functions.lengths q.program.code
 
   pub answer_is : Found usages cells code_walk ids → (verdict : Verdict)
-      → verdict ≡ judged_of usages.ended (on_visited ids (λ f. get_or usages.peaks f 0) q.pool (visit_of (graph_in cells usages.weights) q.pool (entry_rows ids q.entries)))
+      → verdict ≡ judged_of usages (λ u. on_visited ids (λ f. get_or u.peaks f 0) q.pool (visit_of (graph_in cells u.weights) q.pool (entry_rows ids q.entries)))
       → verdict ≡ taken_answer q
   answer_is f verdict e =
       let w = walks_are q room t sizes words hints es ew in
       let g : Found usages cells (walk_at q) ids = rw w at f in
       let r = entries_are ids q.entries (λ id. seat_place ids id t.ids_distinct) in
       e
-      ∙ ap (λ (rows : List ℕ). judged_of usages.ended (on_visited ids (λ f. get_or usages.peaks f 0) q.pool (visit_of (graph_in cells usages.weights) q.pool rows))) r
-      ∙ judged_by usages.ended (walk_at q) ids cells usages.weights usages.peaks q.pool (entries_of ids q.entries) g.told g.recorded
+      ∙ ap (λ (rows : List ℕ). judged_of usages (λ u. on_visited ids (λ f. get_or u.peaks f 0) q.pool (visit_of (graph_in cells u.weights) q.pool rows))) r
+      ∙ judged_by usages (walk_at q) ids cells q.pool (entries_of ids q.entries) g.told g.recorded
       (λ k h. past_peak q k (omega (arith, t.lengths_length)))
 
--- ---- the scratch of an input that is taken, cleared
-pub taken_room : (q : PoolProgram) (m d p c k : ℕ) (marks numbers places carried cells : List ℕ) → PoolTaken q (room_of m d p c) k → marks ≡ zeros m → numbers ≡ zeros d → length places ≡ p → length carried ≡ c → cells ≡ zeros k
-    → Cleared marks numbers × (Roomy (length q.program.code) marks numbers places carried × ((16384 ≤ length cells) × (cells ≡ zeros (length cells))))
-taken_room q m d p c k marks numbers places carried cells t em ed ep ec ek =
-    let lm = length_zeros marks m em in
-    let ld = length_zeros numbers d ed in
-    let lk = length_zeros cells k ek in
-    let s = t.stack in (
-      record { marks_zero = em ∙ ap zeros (sym lm); numbers_zero = ed ∙ ap zeros (sym ld) },
-      (
-        record { marks_room = omega (arith, s.marks_room); numbers_room = omega (arith, s.depths_room); places_room = omega (arith, s.queue_room); carried_room = omega (arith, s.queue_depths_room); small = omega (arith, s.code_length) },
-        (omega (arith, t.cells_room), ek ∙ ap zeros (sym lk)),
-      ),
-    )
-
-pub pool_below : (q : PoolProgram) (room : Room) (k : ℕ) → PoolTaken q room k → q.pool ≤ 65535 → q.pool < 65535
-pool_below q room k t h = below q.pool t.pool_limit h
-  where
-    below : (n : ℕ) → (n ≡ 65535 → ⊥) → n ≤ 65535 → n < 65535
-    below n d l = ⊎_elim (λ e. absurd (d e)) (λ h. h) (eq-or-lt_of_le l)
-
-not_taken : (input : Input) (rest : Verdict) → is_taken input ≡ false → Verdict.Refused input ≡ on_input input rest
-not_taken (Ok _) rest e = absurd (true≢false e)
-not_taken Input.TooMany rest e = refl
-not_taken Input.ScratchShort rest e = refl
-not_taken (Input.ListFault k) rest e = refl
-not_taken (Input.IdRepeated k) rest e = refl
-not_taken (Input.BodyOutside k) rest e = refl
-not_taken Input.PoolTooLarge rest e = refl
-
-module _ (q : PoolProgram) (room : Room) (k : ℕ) (input : Input) (is : input ≡ pool_input q room k) where
-  pub call_taken : is_taken input ≡ true → PoolTaken q room k
-  call_taken e = pool_taken q room k (sym is ∙ taken_is input e)
-
-  pub call_refused : is_taken input ≡ false → Verdict.Refused input ≡ pool_answer q room k
+-- ---- an input that is refused, and one that is taken
+module _ (q : PoolProgram) (room : Room) (k : ℕ) where
+  pub call_refused : (refusal : Refusal) → Err refusal ≡ pool_input q room k → Err (Fault.Refused refusal) ≡ pool_answer q room k
   unfolding pool_answer
-  call_refused e = not_taken input (taken_answer q) e ∙ ap (λ (i : Input). on_input i (taken_answer q)) is
+  call_refused refusal e = ap (λ (i : Input). on_input i (taken_answer q)) e
 
-  pub call_answers : is_taken input ≡ true → (v : Verdict) → v ≡ taken_answer q → v ≡ pool_answer q room k
-  unfolding pool_answer
-  call_answers e v a = a ∙ ap (λ (i : Input). on_input i (taken_answer q)) (sym (taken_is input e) ∙ is)
+  module _ (is : Ok tt ≡ pool_input q room k) where
+    pub call_taken : PoolTaken q room k
+    call_taken = pool_taken q room k (sym is)
+
+    pub call_answers : (v : Verdict) → v ≡ taken_answer q → v ≡ pool_answer q room k
+    unfolding pool_answer
+    call_answers v a = a ∙ ap (λ (i : Input). on_input i (taken_answer q)) is
 
 -- the program's answer is no refusal
-abbrev Judged : Verdict → Type 0
-Judged (Verdict.Refused input) = ⊥
-Judged Verdict.Accepted = Unit {0}
-Judged (Verdict.ExceedsDeclaredPool function offset depth declared) = Unit {0}
-Judged (Verdict.RecursiveCallGraph function) = Unit {0}
-Judged (Verdict.Undecodable function) = Unit {0}
-Judged (Verdict.QueueFull function) = Unit {0}
-
 visited_judged : (ids : List ℕ) (peaks : ℕ → ℕ) (pool : ℕ) (v : Visited) → Judged (on_visited ids peaks pool v)
-visited_judged ids peaks pool (Visited.Fine t) = tt
-visited_judged ids peaks pool (Visited.Cycle f) = tt
-visited_judged ids peaks pool (Visited.Over f t) = tt
+visited_judged ids peaks pool (Ok t) = tt
+visited_judged ids peaks pool (Err (Overrun.Cycle f)) = tt
+visited_judged ids peaks pool (Err (Overrun.Over f t)) = tt
 
 used_judged : (function : ℕ) (u : Used) (rest : Verdict) → Judged rest → Judged (on_used function u rest)
-used_judged function Used.Undecodable rest j = tt
-used_judged function Used.QueueFull rest j = tt
-used_judged function (Used.Uses w p) rest j = j
+used_judged function (Ok _) rest j = j
+used_judged function (Err Unwalked.Undecodable) rest j = tt
+used_judged function (Err Unwalked.QueueFull) rest j = tt
 
 from_judged : (walk : ℕ → Walked) (ids : List ℕ) (rest : Verdict) (left row : ℕ) → Judged rest → Judged (functions_from walk ids rest left row)
 from_judged walk ids rest zero row j = j
@@ -262,44 +223,17 @@ answer_judged walk ids pool rows =
 
 zero_by : (v : Verdict) (first last : List ℕ) → Judged v → ZeroAfter first last → last ≡ scratch_after v first
 unfolding scratch_after
-zero_by (Verdict.Refused input) first last j z = absurd j
-zero_by Verdict.Accepted first last j z = z
-zero_by (Verdict.ExceedsDeclaredPool function offset depth declared) first last j z = z
-zero_by (Verdict.RecursiveCallGraph function) first last j z = z
-zero_by (Verdict.Undecodable function) first last j z = z
-zero_by (Verdict.QueueFull function) first last j z = z
+zero_by (Err (Fault.Refused refusal)) first last j z = absurd j
+zero_by (Ok _) first last j z = z
+zero_by (Err (Fault.ExceedsDeclaredPool function offset depth declared)) first last j z = z
+zero_by (Err (Fault.RecursiveCallGraph function)) first last j z = z
+zero_by (Err (Fault.Undecodable function)) first last j z = z
+zero_by (Err (Fault.QueueFull function)) first last j z = z
 
 pub scratch_zero : (q : PoolProgram) (v : Verdict) (first last : List ℕ) → v ≡ taken_answer q → ZeroAfter first last → last ≡ scratch_after v first
 scratch_zero q v first last e z =
     zero_by v first last (rw e (answer_judged (walk_at q) q.program.functions.ids q.pool (entries_of q.program.functions.ids q.entries))) z
 
-pub scratch_kept : (input : Input) (column : List ℕ) → column ≡ scratch_after (Verdict.Refused input) column
+pub scratch_kept : (refusal : Refusal) (column : List ℕ) → column ≡ scratch_after (Err (Fault.Refused refusal)) column
 unfolding scratch_after
-scratch_kept input column = refl
-
--- ---- the visit's answer, case by case
-module _ (ids peaks : List ℕ) (pool : ℕ) (seen v : Visited) (is : seen ≡ v) where
-  abbrev answered : Verdict
-  answered = on_visited ids (λ f. get_or peaks f 0) pool v
-
-  pub seen_fine : (t : ℕ) → seen ≡ Visited.Fine t → Verdict.Accepted ≡ answered
-  seen_fine t e = sym (ap (on_visited ids (λ f. get_or peaks f 0) pool) (sym is ∙ e))
-
-  pub seen_cycle : (f function : ℕ) → seen ≡ Visited.Cycle f → function ≡ get_or ids f 0 → Verdict.RecursiveCallGraph function ≡ answered
-  seen_cycle f function e n = ap Verdict.RecursiveCallGraph n ∙ sym (ap (on_visited ids (λ g. get_or peaks g 0) pool) (sym is ∙ e))
-
-  pub seen_over : (f t function offset : ℕ) → seen ≡ Visited.Over f t → function ≡ get_or ids f 0 → offset ≡ get_or peaks f 0 → Verdict.ExceedsDeclaredPool function offset t pool ≡ answered
-  seen_over f t function offset e n o =
-      ap₂ (λ (x y : ℕ). Verdict.ExceedsDeclaredPool x y t pool) n o ∙ sym (ap (on_visited ids (λ g. get_or peaks g 0) pool) (sym is ∙ e))
-
-pub judged_walked : (ended : Ended) (verdict rest : Verdict) → ended ≡ Ended.Walked → verdict ≡ rest → verdict ≡ judged_of ended rest
-unfolding judged_of
-judged_walked ended verdict rest e v = v ∙ sym (ap (λ (x : Ended). judged_of x rest) e)
-
-pub judged_undecodable : (ended : Ended) (function : ℕ) (rest : Verdict) → ended ≡ Ended.Undecodable function → Verdict.Undecodable function ≡ judged_of ended rest
-unfolding judged_of
-judged_undecodable ended function rest e = sym (ap (λ (x : Ended). judged_of x rest) e)
-
-pub judged_full : (ended : Ended) (function : ℕ) (rest : Verdict) → ended ≡ Ended.QueueFull function → Verdict.QueueFull function ≡ judged_of ended rest
-unfolding judged_of
-judged_full ended function rest e = sym (ap (λ (x : Ended). judged_of x rest) e)
+scratch_kept refusal column = refl

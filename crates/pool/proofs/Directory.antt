@@ -1,6 +1,7 @@
 -- The directory row after row: either every walk ended and the answer is the visit's, or a row is the first whose walk gave 22 or 23, all earlier ones
 -- having ended, and the answer is that with its id. By induction on the rows that are left, over any walks.
 -- Assumes nothing.
+use Rattle.std.specs.Prelude.{Err, Ok}
 use Prim.Native.Nat.{ℕ, zero, suc, ◌+◌, ◌≤◌, ◌<◌}
 use native.Mathlib.Omega.{arith}
 use native.Mathlib.Nat.{eq-or-lt_of_le}
@@ -8,23 +9,33 @@ use mathlib.Core.Path.{◌≡◌, refl}
 use mathlib.Core.Logic.{⊎_elim}
 use mathlib.Core.List.{List}
 use lib.ListN.{get_or}
-use Rattle.buffers.specs.declared.Used.{Used}
-use Rattle.buffers.specs.Walk.{Walked, used_of}
-use Rattle.pool.specs.declared.Verdict.{Verdict}
-use Rattle.pool.specs.Pool.{on_used, functions_from}
+use Rattle.buffers.specs.declared.Usage as told
+use Rattle.buffers.specs.declared.Unwalked.{Unwalked}
+use Rattle.buffers.specs.Walk.{Walked, used_of, Used}
+use Rattle.pool.specs.declared.Fault.{Fault}
+use Rattle.pool.specs.Pool.{on_used, functions_from, Verdict}
+
+-- no refusal
+abbrev pub Judged : Verdict → Type 0
+Judged (Ok _) = Unit {0}
+Judged (Err (Fault.Refused refusal)) = ⊥
+Judged (Err (Fault.ExceedsDeclaredPool function offset depth declared)) = Unit {0}
+Judged (Err (Fault.RecursiveCallGraph function)) = Unit {0}
+Judged (Err (Fault.Undecodable function)) = Unit {0}
+Judged (Err (Fault.QueueFull function)) = Unit {0}
 
 module _ (walk : ℕ → Walked) (ids : List ℕ) where
   -- a row whose walk gave a weight and a peak offset
   abbrev pub Ended : ℕ → Type 0
-  Ended row = (weight : ℕ) × (peak : ℕ) × (used_of (walk row) ≡ Used.Uses weight peak)
+  Ended row = (u : told.Usage) × (used_of (walk row) ≡ Ok u)
 
   -- the answer of so many rows from a row on, where the visit answers `rest`
   pub data From (rest : Verdict) (left row : ℕ) : Verdict → Type 0 where
     all : ((k : ℕ) → row ≤ k → k < row + left → Ended k) → From rest left row rest
-    stray : (k : ℕ) → row ≤ k → k < row + left → ((j : ℕ) → row ≤ j → j < k → Ended j) → used_of (walk k) ≡ Used.Undecodable
-        → From rest left row (Verdict.Undecodable (get_or ids k 0))
-    full : (k : ℕ) → row ≤ k → k < row + left → ((j : ℕ) → row ≤ j → j < k → Ended j) → used_of (walk k) ≡ Used.QueueFull
-        → From rest left row (Verdict.QueueFull (get_or ids k 0))
+    stray : (k : ℕ) → row ≤ k → k < row + left → ((j : ℕ) → row ≤ j → j < k → Ended j) → used_of (walk k) ≡ Err Unwalked.Undecodable
+        → From rest left row (Err (Fault.Undecodable (get_or ids k 0)))
+    full : (k : ℕ) → row ≤ k → k < row + left → ((j : ℕ) → row ≤ j → j < k → Ended j) → used_of (walk k) ≡ Err Unwalked.QueueFull
+        → From rest left row (Err (Fault.QueueFull (get_or ids k 0)))
 
   -- one row more, in front
   also : (row : ℕ) (P : ℕ → Type 0) → Ended row → ((j : ℕ) → suc row ≤ j → P j → Ended j) → (j : ℕ) → row ≤ j → P j → Ended j
@@ -41,16 +52,16 @@ module _ (walk : ℕ → Walked) (ids : List ℕ) where
     where
       by : (u : Used) → used_of (walk row) ≡ u → From rest left (suc row) (functions_from walk ids rest left (suc row))
           → From rest (suc left) row (on_used (get_or ids row 0) u (functions_from walk ids rest left (suc row)))
-      by Used.Undecodable e on = stray row (omega arith) (omega arith) (λ j l h. absurd (omega arith)) e
-      by Used.QueueFull e on = full row (omega arith) (omega arith) (λ j l h. absurd (omega arith)) e
-      by (Used.Uses weight peak) e on = longer rest left row (weight, peak, e) (functions_from walk ids rest left (suc row)) on
+      by (Err Unwalked.Undecodable) e on = stray row (omega arith) (omega arith) (λ j l h. absurd (omega arith)) e
+      by (Err Unwalked.QueueFull) e on = full row (omega arith) (omega arith) (λ j l h. absurd (omega arith)) e
+      by (Ok u) e on = longer rest left row (u, e) (functions_from walk ids rest left (suc row)) on
 
   -- where every walk ended, the answer is the visit's
   pub all_ended : (rest : Verdict) (left row : ℕ) → ((k : ℕ) → row ≤ k → k < row + left → Ended k) → functions_from walk ids rest left row ≡ rest
   all_ended rest zero row a = refl
   all_ended rest (suc left) row a =
       let e = a row (omega arith) (omega arith) in
-      rw e.2 (all_ended rest left (suc row) (λ k l h. a k (omega arith) (omega arith)))
+      rw e.1 (all_ended rest left (suc row) (λ k l h. a k (omega arith) (omega arith)))
 
   -- up to a row whose walk did not end, the answer is what that row says
   pub up_to : (rest : Verdict) (left row k : ℕ) (v : Verdict) → row ≤ k → k < row + left → ((j : ℕ) → row ≤ j → j < k → Ended j)
@@ -58,5 +69,5 @@ module _ (walk : ℕ → Walked) (ids : List ℕ) where
   up_to rest zero row k v l h a e = absurd (omega arith)
   up_to rest (suc left) row k v l h a e =
       ⊎_elim (λ w. rw w (e (functions_from walk ids rest left (suc k))))
-      (λ w. rw (a row (omega arith) w).2 (up_to rest left (suc row) k v w (omega arith) (λ j i g. a j (omega arith) g) e))
+      (λ w. rw (a row (omega arith) w).1 (up_to rest left (suc row) k v w (omega arith) (λ j i g. a j (omega arith) g) e))
       (eq-or-lt_of_le l)

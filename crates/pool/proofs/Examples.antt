@@ -5,7 +5,7 @@ use Prim.Native.Nat.{ℕ, suc, ◌+◌, ◌*◌}
 use mathlib.Core.Path.{◌≡◌, refl}
 use mathlib.Core.List.{List, [], ◌∷◌, ◌++◌}
 use lib.ListN.{length}
-use Rattle.cells.specs.Zeros.{copies, zeros}
+use Rattle.cells.specs.Zeros.{copies}
 use Rattle.tables.specs.Set.{size_of, move_of, temp_of, instruction_set}
 use Rattle.flow.specs.Decode.{step_by, operands_at, word_at, flow_of, moved, target_of}
 use Rattle.flow.specs.Walk.{walk_by, marks_of}

@@ -1,29 +1,25 @@
 -- The loop over the directory, over any walk of a body: what it has done up to a row, and a law for each way that a row can go.
 -- Assumes nothing.
+use Rattle.std.specs.Prelude.{Err, Ok}
 use Prim.Native.Nat.{ℕ, suc, ◌+◌, ◌-◌, ◌*◌, ◌≤◌, ◌<◌}
 use native.Mathlib.Omega.{arith}
 use native.Mathlib.Decide.{ℕ_discrete}
 use native.Mathlib.Numerals.{add-one}
 use mathlib.Core.Path.{◌≡◌, refl, ◌∙◌, ap, ap₂, sym}
 use mathlib.Core.List.{List}
-use lib.ListN.{length, get_or, set, take, drop, length-set, length-take, length-drop, replicate}
+use lib.ListN.{length, get_or, set, take, drop, length-set, replicate}
 use lib.Seq.{get_or-set_same, get_or-set_other}
 use Rattle.cells.specs.Zeros.{zeros, zeros_are, length_zeros, any_zero}
-use Rattle.buffers.specs.declared.Used.{Used}
-use Rattle.buffers.specs.Walk.{Walked, undecodable, crowded, unfinished, walked, used_of, callees_of}
+use Rattle.buffers.specs.declared.Usage as told
+use Rattle.buffers.specs.declared.Unwalked.{Unwalked}
+use Rattle.buffers.specs.Walk.{Walked, undecodable, crowded, unfinished, walked, used_of, callees_of, Used}
 use Rattle.visit.specs.Cells.{callees_in}
-use Rattle.pool.specs.declared.Verdict.{Verdict}
-use Rattle.pool.specs.declared.bodies.Ended.{Ended}
-use Rattle.pool.specs.Columns.{Walks, RowHolds, Listed, Cleared, Roomy, Blank, Laid, Lays}
-use Rattle.pool.specs.Pool.{weight_of, peak_of, rows_in, on_used, functions_from}
+use Rattle.pool.specs.declared.Fault.{Fault}
+use Rattle.pool.specs.declared.bodies.Usages.{Usages}
+use Rattle.pool.specs.Columns.{Walks, RowHolds, Listed, Cleared, Laid, Lays}
+use Rattle.pool.specs.Pool.{weight_of, peak_of, rows_in, fault_of, on_used, functions_from, Verdict}
 use Rattle.pool.specs.Usages.{walks_by, Told, IfWalked, Found}
 use Rattle.pool.proofs.Rows.{row_read, row_empty, row_stays}
-
--- a body that is a part of the code has room where the code has
-pub roomy_part : (marks numbers places carried code : List ℕ) (from n : ℕ) (body : List ℕ) → body ≡ take n (drop from code) → Roomy (length code) marks numbers places carried → Roomy (length body) marks numbers places carried
-roomy_part marks numbers places carried code from n body e r =
-    let l : length body ≤ length code = rw e (simp (length-take, length-drop) (omega arith)) in
-    record { marks_room = omega (arith, r); numbers_room = omega (arith, r); places_room = omega (arith, r); carried_room = omega (arith, r); small = omega (arith, r) }
 
 -- the body of a row
 pub row_walk : (walk : List ℕ → Walked) (offsets lengths code : List ℕ) (row offset n : ℕ) (body : List ℕ) (r : Used) (at : ℕ) (first last : List ℕ) → offset ≡ get_or offsets row 0 → n ≡ get_or lengths row 0 → body ≡ take n (drop offset code)
@@ -75,19 +71,19 @@ going_first walk ids marks numbers places carried cells weights peaks c z w p =
     }
 
 -- what a walk's answer says of the walk
-uses_walked : (w : Walked) (weight peak : ℕ) → Used.Uses weight peak ≡ used_of w → (weight ≡ weight_of w) × (peak ≡ peak_of w)
-uses_walked undecodable weight peak e = absurd (let z : ◌≡◌ {A = ℕ} 0 1 = cc in omega arith)
-uses_walked crowded weight peak e = absurd (let z : ◌≡◌ {A = ℕ} 0 1 = cc in omega arith)
-uses_walked unfinished weight peak e = absurd (let z : ◌≡◌ {A = ℕ} 0 1 = cc in omega arith)
-uses_walked (walked numbers u) weight peak e = (cc, cc)
+uses_walked : (w : Walked) (usage : told.Usage) → Ok usage ≡ used_of w → (usage.weight ≡ weight_of w) × (usage.peak ≡ peak_of w)
+uses_walked undecodable usage e = cc
+uses_walked crowded usage e = cc
+uses_walked unfinished usage e = cc
+uses_walked (walked numbers u) usage e = let s : usage ≡ record { weight = u.weight; peak = u.peak } = cc in (ap (λ (x : told.Usage). x.weight) s, ap (λ (x : told.Usage). x.peak) s)
 
 lays_used : (r : Used) (at : ℕ) (first last : List ℕ) (w : Walked) → Lays r at first last w → r ≡ used_of w
 unfolding Walks
 lays_used r at first last w y = y.holds.0
 
-held_by : (used : Used) (weight peak : ℕ) (found callees : List ℕ) → used ≡ Used.Uses weight peak → RowHolds used found callees → (met : ℕ) × (Listed found met × (take met found ≡ callees))
+held_by : (used : Used) (usage : told.Usage) (found callees : List ℕ) → used ≡ Ok usage → RowHolds used found callees → (met : ℕ) × (Listed found met × (take met found ≡ callees))
 unfolding RowHolds
-held_by used weight peak found callees e h = rw e at h
+held_by used usage found callees e h = rw e at h
 
 -- a column in which one more row is on record
 set_by : (column : List ℕ) (row value : ℕ) (on : ℕ → ℕ) → row < length column → ((f : ℕ) → f < row → get_or column f 0 ≡ on f) → value ≡ on row → (f : ℕ) → f < row + 1 → Dec (f ≡ row) → get_or (set column row value) f 0 ≡ on f
@@ -96,37 +92,24 @@ set_by column row value on l h v f k (no n) = get_or-set_other column row f valu
 
 module _ (walk : ℕ → Walked) (ids marks₀ numbers₀ places₀ carried₀ cells₀ marks numbers places carried cells weights peaks : List ℕ) (row : ℕ)
     (g : Going walk ids marks₀ numbers₀ places₀ carried₀ cells₀ marks numbers places carried cells weights peaks row) where
-  pub going_cleared : Cleared marks numbers
-  going_cleared =
-      record { marks_zero = g.marks_zero ∙ ap zeros (sym (length_zeros marks (length marks₀) g.marks_zero)); numbers_zero = g.numbers_zero ∙ ap zeros (sym (length_zeros numbers (length numbers₀) g.numbers_zero)) }
-
-  pub going_room : (n : ℕ) → Roomy n marks₀ numbers₀ places₀ carried₀ → Roomy n marks numbers places carried
-  going_room n r =
-      let m = length_zeros marks (length marks₀) g.marks_zero in
-      let d = length_zeros numbers (length numbers₀) g.numbers_zero in
-      record { marks_room = omega (arith, r); numbers_room = omega (arith, r); places_room = omega (arith, r, g.places_same); carried_room = omega (arith, r, g.carried_same); small = r.small }
-
-  pub going_blank : row < 128 → 16384 ≤ length cells₀ → Blank row cells
-  going_blank h l = record { within = omega (arith, g.cells_same); blank = g.blank }
-
   -- every function was walked
-  pub going_end : length ids ≤ row → length ids ≤ 128 → (ended : Ended) → ended ≡ Ended.Walked → Found (record { ended = ended; weights = weights; peaks = peaks }) cells walk ids
+  pub going_end : length ids ≤ row → length ids ≤ 128 → (usages : Usages) → usages.weights ≡ weights → usages.peaks ≡ peaks → Found (Ok usages) cells walk ids
   unfolding Told IfWalked
-  going_end h few ended e =
+  going_end h few usages ew ep =
       let n : row ≡ length ids = omega (arith, g.within) in
       let z : length ids - row ≡ 0 = omega arith in
-      rw e (record {
+      record {
         told = λ rest. sym (g.goes_on rest) ∙ ap (λ (k : ℕ). functions_from walk ids rest k row) z;
         recorded =
-            record {
+            rw (ew, ep) (record {
               calls = λ f k. g.calls f (omega arith);
               blank_calls = λ f k l. row_empty cells f (λ i j. g.blank (f * 128 + i) (omega arith));
               weighs = λ f k. g.weighs f (omega arith);
               blank_weights = λ f k. g.blank_weights f (omega arith);
               peak_at = λ f k. g.peak_at f (omega arith);
               blank_peaks = λ f k. g.blank_peaks f (omega arith);
-            };
-      })
+            });
+      }
 
   module _ (more : row < length ids) where
     step : (rest : Verdict) → functions_from walk ids rest (length ids) 0 ≡ on_used (get_or ids row 0) (used_of (walk row)) (functions_from walk ids rest (length ids - (row + 1)) (row + 1))
@@ -138,28 +121,23 @@ module _ (walk : ℕ → Walked) (ids marks₀ numbers₀ places₀ carried₀ c
       used_is : used ≡ used_of (walk row)
       used_is = lays_used used at first last (walk row) lays
 
-      pub going_undecodable : used ≡ Used.Undecodable → (function : ℕ) (cells' : List ℕ) → function ≡ get_or ids row 0 → Found (record { ended = Ended.Undecodable function; weights = weights; peaks = peaks }) cells' walk ids
+      pub going_stopped : (unwalked : Unwalked) → used ≡ Err unwalked → (fault : Fault) (cells' : List ℕ) → fault ≡ fault_of (get_or ids row 0) unwalked → Found (Err fault) cells' walk ids
       unfolding Told IfWalked
-      going_undecodable e function cells' f =
-          record { told = λ rest. step rest ∙ ap (λ (u : Used). on_used (get_or ids row 0) u (functions_from walk ids rest (length ids - (row + 1)) (row + 1))) (sym used_is ∙ e) ∙ ap Verdict.Undecodable (sym f); recorded = tt }
-
-      pub going_full : used ≡ Used.QueueFull → (function : ℕ) (cells' : List ℕ) → function ≡ get_or ids row 0 → Found (record { ended = Ended.QueueFull function; weights = weights; peaks = peaks }) cells' walk ids
-      unfolding Told IfWalked
-      going_full e function cells' f =
-          record { told = λ rest. step rest ∙ ap (λ (u : Used). on_used (get_or ids row 0) u (functions_from walk ids rest (length ids - (row + 1)) (row + 1))) (sym used_is ∙ e) ∙ ap Verdict.QueueFull (sym f); recorded = tt }
+      going_stopped unwalked e fault cells' f =
+          record { told = λ rest. step rest ∙ ap (λ (u : Used). on_used (get_or ids row 0) u (functions_from walk ids rest (length ids - (row + 1)) (row + 1))) (sym used_is ∙ e) ∙ ap Err (sym f); recorded = tt }
 
     calls_by : (last found : List ℕ) (met : ℕ) → Laid (row * 128) cells last found → Listed found met → take met found ≡ callees_of (walk row) → (f : ℕ) → f < row + 1 → Dec (f ≡ row) → callees_in last f ≡ rows_in (callees_of (walk f))
     calls_by last found met laid listed t f k (yes e) = rw e (row_read last found row met listed laid.here ∙ ap rows_in t)
     calls_by last found met laid listed t f k (no n) = row_stays cells last f (λ i j. laid.before (f * 128 + i) (omega arith)) ∙ g.calls f (omega arith)
 
-    pub going_more : row < 128 → (weight peak : ℕ) (used : Used) (m d p c last : List ℕ) → Lays used (row * 128) cells last (walk row) → used ≡ Used.Uses weight peak
+    pub going_more : row < 128 → (usage : told.Usage) (used : Used) (m d p c last : List ℕ) → Lays used (row * 128) cells last (walk row) → used ≡ Ok usage
         → m ≡ zeros (length marks) → d ≡ zeros (length numbers) → length p ≡ length places → length c ≡ length carried → length last ≡ length cells
-        → Going walk ids marks₀ numbers₀ places₀ carried₀ cells₀ m d p c last (set weights row weight) (set peaks row peak) (row + 1)
+        → Going walk ids marks₀ numbers₀ places₀ carried₀ cells₀ m d p c last (set weights row usage.weight) (set peaks row usage.peak) (row + 1)
     unfolding Walks RowHolds
-    going_more small weight peak used m d p c last lays e em ed ep ec el =
-        let u = uses_walked (walk row) weight peak (sym e ∙ lays_used used (row * 128) cells last (walk row) lays) in
+    going_more small usage used m d p c last lays e em ed ep ec el =
+        let u = uses_walked (walk row) usage (sym e ∙ lays_used used (row * 128) cells last (walk row) lays) in
         let laid = lays.laid in
-        let held : (met : ℕ) × (Listed lays.found met × (take met lays.found ≡ callees_of (walk row))) = held_by used weight peak lays.found (callees_of (walk row)) e lays.holds.1 in
+        let held : (met : ℕ) × (Listed lays.found met × (take met lays.found ≡ callees_of (walk row))) = held_by used usage lays.found (callees_of (walk row)) e lays.holds.1 in
         record {
           within = omega arith;
           marks_zero = em ∙ ap zeros (length_zeros marks (length marks₀) g.marks_zero);
@@ -169,11 +147,11 @@ module _ (walk : ℕ → Walked) (ids marks₀ numbers₀ places₀ carried₀ c
           cells_same = el ∙ g.cells_same;
           blank = λ i h. laid.after i (omega arith) ∙ g.blank i (omega arith);
           calls = λ f h. calls_by last lays.found held.0 laid held.1.0 held.1.1 f h (ℕ_discrete f row);
-          weights_wide = length-set weights row weight ∙ g.weights_wide;
-          weighs = λ f h. set_by weights row weight (λ k. weight_of (walk k)) (omega (arith, g.weights_wide)) g.weighs u.0 f h (ℕ_discrete f row);
-          blank_weights = λ f h. get_or-set_other weights row f weight 0 (λ q. omega arith) ∙ g.blank_weights f (omega arith);
-          peaks_wide = length-set peaks row peak ∙ g.peaks_wide;
-          peak_at = λ f h. set_by peaks row peak (λ k. peak_of (walk k)) (omega (arith, g.peaks_wide)) g.peak_at u.1 f h (ℕ_discrete f row);
-          blank_peaks = λ f h. get_or-set_other peaks row f peak 0 (λ q. omega arith) ∙ g.blank_peaks f (omega arith);
+          weights_wide = length-set weights row usage.weight ∙ g.weights_wide;
+          weighs = λ f h. set_by weights row usage.weight (λ k. weight_of (walk k)) (omega (arith, g.weights_wide)) g.weighs u.0 f h (ℕ_discrete f row);
+          blank_weights = λ f h. get_or-set_other weights row f usage.weight 0 (λ q. omega arith) ∙ g.blank_weights f (omega arith);
+          peaks_wide = length-set peaks row usage.peak ∙ g.peaks_wide;
+          peak_at = λ f h. set_by peaks row usage.peak (λ k. peak_of (walk k)) (omega (arith, g.peaks_wide)) g.peak_at u.1 f h (ℕ_discrete f row);
+          blank_peaks = λ f h. get_or-set_other peaks row f usage.peak 0 (λ q. omega arith) ∙ g.blank_peaks f (omega arith);
           goes_on = λ rest. sym (ap (λ (v : Used). on_used (get_or ids row 0) v (functions_from walk ids rest (length ids - (row + 1)) (row + 1))) (sym (lays_used used (row * 128) cells last (walk row) lays) ∙ e)) ∙ sym (step rest);
         }

@@ -5,7 +5,7 @@ pub mod Opening
 pub mod Naming
 pub mod Sheets
 pub mod Examples
-pub mod Ring
+pub mod Waiting
 pub mod Raising
 pub mod Listing
 pub mod Walking

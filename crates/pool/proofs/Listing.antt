@@ -1,5 +1,7 @@
 -- A row of callee cells: a cell joins it where it is not there yet, and there is room, since cells are 1 to 128 and none stands twice.
 -- Assumes nothing.
+use Rattle.std.specs.Prelude.{◌||◌, nat_eq}
+use Rattle.std.specs.List.{list_any}
 use Prim.Native.Nat.{ℕ, zero, suc, ◌+◌, ◌-◌, ◌≤◌, ◌<◌}
 use native.Mathlib.Omega.{arith}
 use native.Mathlib.Numerals.{add-one}
@@ -9,7 +11,7 @@ use mathlib.Core.List.{List, [], ◌∷◌, ◌++◌}
 use mathlib.Core.Logic.{◌⊎◌, inl, inr, ⊎_elim}
 use lib.Dec.{eqb}
 use lib.ListN.{length, get_or, set, take, length-set, length-append}
-use lib.Seq.{take-suc, take-suc-set, get_or-set_other, length-take-le, get_or-take}
+use lib.Seq.{take-suc-set, get_or-set_other, length-take-le}
 use borrow.Author.Tests.{eqb-true, eqb-false, ne_eqb}
 use Rattle.buffers.specs.Walk.{has, noted}
 use Rattle.buffers.proofs.Queue.{noted_none, noted_met, noted_new, has_here, has_later}
@@ -41,10 +43,6 @@ has_either c d cells e = by (has c cells) refl (eqb d c) refl (sym (has_snoc c d
     by true p b q h = inl p
     by false p true q h = inr (eqb-true d c q)
     by false p false q h = absurd (true≢false (sym h ∙ rw (p, q) refl))
-
-has_last : (d : ℕ) (cells : List ℕ) → has d (cells ++ (d ∷ [])) ≡ true
-has_last d [] = has_here d d [] refl
-has_last d (x ∷ cells) = or_else (eqb x d) (has d (cells ++ (d ∷ []))) (has_last d cells)
 
 -- has is said of the head and of the rest
 has_not : (d x : ℕ) (cells : List ℕ) → has d (x ∷ cells) ≡ false → (x ≡ d → ⊥) × (has d cells ≡ false)
@@ -87,9 +85,6 @@ module _ (row : List ℕ) (met cell : ℕ) (l : Listed row met) where
   note_met b e t = (l, sym (noted_met cell (take met row) (sym e ∙ t)))
 
   module _ (some : cell ≡ 0 → ⊥) (small : cell ≤ 128) (new : has cell (take met row) ≡ false) where
-    grown : List ℕ
-    grown = take met row ++ (cell ∷ [])
-
     grown_cells : (c : ℕ) → has c (take met row ++ (cell ∷ [])) ≡ true → (1 ≤ c) × (c ≤ 128)
     grown_cells c i = ⊎_elim (λ h. l.cells c h) (λ e. (omega arith, omega arith)) (has_either c cell (take met row) i)
 
@@ -126,23 +121,11 @@ has_at c [] i h e = absurd (omega arith)
 has_at c (x ∷ cells) zero h e = has_here c x cells e
 has_at c (x ∷ cells) (suc i) h e = or_else (eqb x c) (has c cells) (has_at c cells i (omega arith) e)
 
-pub record Looking (row : List ℕ) (met cell i : ℕ) : Type 0 where
-  pub within : i ≤ met
-  pub not_yet : has cell (take i row) ≡ false
-
-pub looking_first : (row : List ℕ) (met cell : ℕ) → Looking row met cell 0
-looking_first row met cell = record { within = omega arith; not_yet = refl }
-
-module _ (row : List ℕ) (met cell i : ℕ) (g : Looking row met cell i) where
-  pub looking_end : met ≤ i → false ≡ has cell (take met row)
-  looking_end h = let e : i ≡ met = omega (arith, g.within) in sym g.not_yet ∙ ap (λ (n : ℕ). has cell (take n row)) e
-
-  module _ (more : i < met) (room : met ≤ length row) where
-    step : take (i + 1) row ≡ take i row ++ (get_or row i 0 ∷ [])
-    step = ap (λ (n : ℕ). take n row) (add-one i) ∙ take-suc row i 0 (omega arith)
-
-    pub looking_on : (get_or row i 0 ≡ cell → ⊥) → Looking row met cell (i + 1)
-    looking_on n = record { within = omega arith; not_yet = ap (has cell) step ∙ has_snoc cell (get_or row i 0) (take i row) ∙ rw g.not_yet (ne_eqb (get_or row i 0) cell n) }
-
-    pub looking_found : get_or row i 0 ≡ cell → true ≡ has cell (take met row)
-    looking_found e = sym (has_at cell (take met row) i (let t = length-take-le met row room in omega arith) (get_or-take met row i 0 more ∙ e))
+-- the library's search along a row
+pub listed_any : (cell : ℕ) (cells : List ℕ) → list_any (λ c. nat_eq c cell) cells ≡ has cell cells
+listed_any cell [] = refl
+listed_any cell (x ∷ cells) = by (eqb x cell) (listed_any cell cells)
+  where
+    by : (b : Bool) → list_any (λ c. nat_eq c cell) cells ≡ has cell cells → (b || list_any (λ c. nat_eq c cell) cells) ≡ cond b true (has cell cells)
+    by true e = refl
+    by false e = e

@@ -11,7 +11,6 @@ use mathlib.Core.Logic.{◌⊎◌, inl, inr, ⊎_elim}
 use mathlib.Core.List.{List, [], ◌∷◌}
 use lib.Dec.{ltb}
 use lib.ListN.{length}
-use borrow.Author.Tests.{lt-ltb}
 use Rattle.tables.specs.Set.{size_of, move_of}
 use Rattle.flow.specs.Walk.{marks_of}
 use Rattle.flow.proofs.Next.{body_fits}
@@ -41,13 +40,6 @@ cell_is ids id = by (place_of ids id) refl
     by : (p : Place) → place_of ids id ≡ p → (cell_at p ≡ 0) ⊎ ((row : ℕ) × (row < length ids) × (p ≡ Some row) × (cell_at p ≡ suc row))
     by (Some row) e = ⊎_elim (λ z. inl z) (λ z. inr (row, place_in ids id row e, refl, z)) (cell row (ltb row 128))
     by None e = inl refl
-
--- in a directory of at most 128 functions every row has its cell
-pub row_cell : (ids : List ℕ) (id row : ℕ) → length ids ≤ 128 → place_of ids id ≡ Some row → cell_at (place_of ids id) ≡ suc row
-row_cell ids id row few e =
-    let l = place_in ids id row e in
-    let z : row + 1 ≡ suc row = omega arith in
-    rw (e, lt-ltb row 128 (omega arith)) z
 
 cell_inside : (ids : List ℕ) (id : ℕ) → cell_at (place_of ids id) ≤ length ids
 cell_inside ids id = ⊎_elim (λ z. omega (arith, z)) (λ r. omega (arith, r.1, r.3)) (cell_is ids id)

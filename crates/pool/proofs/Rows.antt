@@ -8,8 +8,7 @@ use mathlib.Core.List.{List, [], ◌∷◌, ◌++◌}
 use lib.ListN.{length, get_or, take, drop, get_or-append, length-drop}
 use lib.Seq.{length-take-le, get_or-take, get_or-drop, get_or-append-add}
 use Rattle.cells.specs.Zeros.{copies, zeros}
-use Rattle.buffers.specs.declared.Used.{Used}
-use Rattle.buffers.specs.Walk.{Walked}
+use Rattle.buffers.specs.Walk.{Walked, Used}
 use Rattle.visit.specs.Cells.{callees_in}
 use Rattle.visit.proofs.Laws.{row_holds, callees_are, same_cells}
 use Rattle.pool.specs.Columns.{Walks, Listed, Blank, Laid, Lays}

@@ -1,49 +1,25 @@
 -- One tread of the code is the definition's, by the cases of buffers: an instruction that is plain, and any other.
 -- Assumes nothing.
 use Rattle.codes.specs.First.{Place}
-use Prim.Native.Nat.{ℕ, ◌+◌, ◌-◌, ◌<◌}
+use Prim.Native.Nat.{ℕ, ◌+◌, ◌<◌}
 use mathlib.Core.Path.{◌≡◌, refl, ◌∙◌, ap, sym}
 use mathlib.Core.Bool.{true}
 use mathlib.Core.List.{List}
 use lib.ListN.{length, get_or}
 use Rattle.tables.specs.declared.TempEffect.{TempEffect}
-use Rattle.tables.specs.declared.TempEffect.TheVariants.{GivesBack}
 use Rattle.tables.specs.declared.Move.{Move}
 use Rattle.tables.specs.Packed.{move_in, temp_in, plain_in, effect_in}
 use Rattle.tables.specs.Stored.{plain_fixed}
-use Rattle.flow.specs.declared.Flow.{Flow}
-use Rattle.flow.specs.declared.Flow.TheVariants.{Next, Jump, Branch, Return}
-use Rattle.flow.specs.Decode.{operands_at, flow_of, moved, target_of, Target}
+use Rattle.flow.specs.Decode.{operands_at, flow_of}
 use Rattle.flow.proofs.Next.{flow_next}
 use Rattle.buffers.specs.declared.Way.{Way}
-use Rattle.buffers.specs.Tread.{Temps, Opens, sum_past, on_target, flowing, bounded, treads, tread_of}
-use Rattle.buffers.proofs.Cases.{flowing_next, flowing_return, tread_acts, tread_bounded, tread_opens}
+use Rattle.buffers.specs.Tread.{Temps, Opens, sum_past, flowing, bounded, treads, tread_of}
+use Rattle.buffers.proofs.Cases.{flowing_next, tread_acts, tread_bounded, tread_opens}
 use Rattle.callees.specs.Callees.{temps_by, opens_by}
 use Rattle.callees.specs.Laws.{temps_fixed, opens_fixed, opens_le}
 use Rattle.pool.specs.Plain.{PlainGoesOn}
 use Rattle.pool.specs.Columns.{Fitting}
 use Rattle.pool.proofs.Walking.{Lawful}
-
-pub sum_less : (held : ℕ) → (held ≡ 0 → ⊥) → held - 1 ≡ sum_past GivesBack held
-sum_less held n = refl
-
-pub sum_none : (effect : TempEffect) (held : ℕ) → effect ≡ GivesBack → held ≡ 0 → 0 ≡ sum_past effect held
-sum_none effect held e z = rw (e, z) refl
-
-module _ (marks : List ℕ) (end next : ℕ) (way way' : Flow) (is : way ≡ way') where
-  pub flows_next : way ≡ Next → Way.Goes next ≡ flowing marks end next way'
-  flows_next e = sym (flowing_next marks end next) ∙ sym (ap (flowing marks end next) (sym is ∙ e))
-
-  pub flows_return : way ≡ Return → Way.Ends ≡ flowing marks end next way'
-  flows_return e = sym (flowing_return marks end next) ∙ sym (ap (flowing marks end next) (sym is ∙ e))
-
-  pub flows_jump : (word : ℕ) (target : Target) (r : Way) → way ≡ Jump word → target ≡ target_of marks end (moved next word) → r ≡ on_target (λ to. Way.Goes to) target → r ≡ flowing marks end next way'
-  unfolding flowing
-  flows_jump word target r e t q = q ∙ ap (on_target (λ to. Way.Goes to)) t ∙ sym (ap (flowing marks end next) (sym is ∙ e))
-
-  pub flows_branch : (word : ℕ) (target : Target) (r : Way) → way ≡ Branch word → target ≡ target_of marks end (moved next word) → r ≡ on_target (λ to. Way.Forks to next) target → r ≡ flowing marks end next way'
-  unfolding flowing
-  flows_branch word target r e t q = q ∙ ap (on_target (λ to. Way.Forks to next)) t ∙ sym (ap (flowing marks end next) (sym is ∙ e))
 
 module _ (words : List ℕ) (find row : ℕ → Place) (flags types blocks marks body : List ℕ) (pool offset held op size wide : ℕ)
     (inside : offset < length body) (is_op : op ≡ get_or body offset 0) (is_size : size ≡ get_or marks offset 0) (is_IsWide : wide ≡ size) where

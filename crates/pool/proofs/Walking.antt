@@ -2,6 +2,7 @@
 -- it gives from the start. A law for each way that a turn can go. The turns that are left are as many as the definition has left: what can still be
 -- raised bounds them.
 -- Assumes nothing.
+use Rattle.std.specs.Prelude.{max, Some, None, Ok, Err}
 use Prim.Native.Nat.{ℕ, zero, suc, ◌+◌, ◌*◌, ◌≤◌, ◌<◌}
 use native.Mathlib.Omega.{arith}
 use mathlib.Core.Path.{◌≡◌, refl, ◌∙◌, ap, ap₂, sym}
@@ -13,15 +14,14 @@ use borrow.Author.Tests.{ltb-true, ltb-false}
 use Rattle.cells.specs.Zeros.{zeros, length_zeros, any_zero}
 use Rattle.buffers.specs.declared.Way.{Way}
 use Rattle.buffers.specs.declared.Tread.{Tread}
-use Rattle.buffers.specs.declared.Used.{Used}
+use Rattle.buffers.specs.declared.Unwalked.{Unwalked}
 use Rattle.buffers.specs.Tread.{Leads, Bounded}
-use Rattle.buffers.specs.Walk.{Entry, entry, Outcome, astray, full, go, follow, Usage, noted, used, unused, Walked, walked, walk_from, begun, turns_of, walk_of, slack, used_of, callees_of}
+use Rattle.buffers.specs.Walk.{Entry, entry, Outcome, astray, full, go, follow, Usage, noted, used, unused, Walked, walked, walk_from, begun, turns_of, walk_of, slack, used_of, callees_of, uses}
 use Rattle.buffers.proofs.Queue.{walk_done, walk_stale, walk_astray, walk_full, walk_goes, walk_begun, turns_are, length_begun, begun_first, slack_begun}
 use Rattle.buffers.proofs.Turns.{follow_less}
-use Rattle.pool.specs.declared.walk.Turn.{Turn}
-use Rattle.pool.specs.declared.walk.First.{First}
-use Rattle.pool.specs.Columns.{waiting, Ready, Turns, skipped, Firsts, Listed, RowHolds, Walks}
-use Rattle.pool.proofs.Ring.{waiting_length, waiting_none}
+use Rattle.pool.specs.declared.ring.Waiting.{Waiting}
+use Rattle.pool.specs.Columns.{waiting, Ready, stopped, Turns, skipped, Firsts, Listed, RowHolds, Walks}
+use Rattle.pool.proofs.Waiting.{waiting_length, waiting_none}
 use Rattle.pool.proofs.Raising.{skips, takes, skipped_none}
 
 abbrev found : ℕ → ℕ → List ℕ → Usage
@@ -87,6 +87,13 @@ leads_more n x y sum Way.Astray l h = tt
 leads_more n x y sum (Way.Goes to) l h = (h.0, omega (arith, h.1))
 leads_more n x y sum (Way.Forks to next) l h = (h.0, (h.1.0, omega (arith, h.1.1)))
 
+larger : (a b : ℕ) → max a b ≡ cond (ltb a b) b a
+larger a b = by (ltb a b) refl
+  where
+    by : (t : Bool) → ltb a b ≡ t → max a b ≡ cond t b a
+    by true e = let l = ltb-true a b e in omega arith
+    by false e = let l = ltb-false a b e in omega arith
+
 -- what a tread adds to what was found
 used_is : (offset weight peak weight' peak' : ℕ) (t : Tread) (callees callees' : List ℕ) → weight' ≡ cond (ltb weight t.sum) t.sum weight → peak' ≡ cond (ltb weight t.sum) offset peak → callees' ≡ noted t.opens callees
     → used offset t (found weight peak callees) ≡ found weight' peak' callees'
@@ -111,10 +118,15 @@ skipped_le numbers queue a b x y = let m = skipped_most numbers queue in omega a
 -- what joined an empty queue is within the pool
 grown_within : (room : ℕ) (numbers : List ℕ) (sum : ℕ) (way : Way) (n pool : ℕ) (numbers' : List ℕ) (e : Entry) (q : List Entry) → Leads n pool sum way → follow room numbers [] sum way ≡ go numbers' (e ∷ q) → sum ≤ pool
 unfolding follow
-grown_within room numbers sum Way.Ends n pool numbers' e q l h = absurd (let z : ◌≡◌ {A = ℕ} 0 1 = cc in omega arith)
-grown_within room numbers sum Way.Astray n pool numbers' e q l h = absurd (let z : ◌≡◌ {A = ℕ} 0 1 = cc in omega arith)
+grown_within room numbers sum Way.Ends n pool numbers' e q l h = cc
+grown_within room numbers sum Way.Astray n pool numbers' e q l h = cc
 grown_within room numbers sum (Way.Goes to) n pool numbers' e q l h = l.1
 grown_within room numbers sum (Way.Forks to next) n pool numbers' e q l h = l.1.1
+
+-- 22 and 23 leave nothing more to say of the row
+pub walks_stopped : (unwalked : Unwalked) (row : List ℕ) (w : Walked) → Err unwalked ≡ used_of w → Walks (Err unwalked) row w
+unfolding Walks RowHolds
+walks_stopped unwalked row w e = (e, tt)
 
 module _ (rule : ℕ → ℕ → Tread) (room pool n : ℕ) (lawful : Lawful rule pool n) (numbers places carried row : List ℕ) (head count offset held weight peak met : ℕ)
     (w : Walking rule room pool n numbers places carried row head count offset held weight peak met) (t : Tread) (is : t ≡ rule offset held) where
@@ -144,18 +156,25 @@ module _ (rule : ℕ → ℕ → Tread) (room pool n : ℕ) (lawful : Lawful rul
       by zero h = absurd (omega arith)
       by (suc k) h = (k, refl)
 
-  pub walking_astray : outcome ≡ astray → Used.Undecodable ≡ used_of (walk_of rule room pool n)
-  walking_astray e =
+  -- 22 and 23
+  pub walking_stopped : (unwalked : Unwalked) → outcome ≡ stopped unwalked → Err unwalked ≡ used_of (walk_of rule room pool n)
+  walking_stopped Unwalked.Undecodable e =
       let s = step astray e in
       ap used_of (sym (walk_astray rule room s.0 numbers offset held queue (found weight peak (take met row)) w.fresh (there astray e)) ∙ ap (λ (k : ℕ). walk_from rule room k numbers (entry offset held ∷ queue) (found weight peak (take met row))) (sym s.1) ∙ w.goes_on)
-
-  pub walking_full : outcome ≡ full → Used.QueueFull ≡ used_of (walk_of rule room pool n)
-  walking_full e =
+  walking_stopped Unwalked.QueueFull e =
       let s = step full e in
       ap used_of (sym (walk_full rule room s.0 numbers offset held queue (found weight peak (take met row)) w.fresh (there full e)) ∙ ap (λ (k : ℕ). walk_from rule room k numbers (entry offset held ∷ queue) (found weight peak (take met row))) (sym s.1) ∙ w.goes_on)
 
+  -- and the walk's answer
+  pub walking_stops : (row' : List ℕ) (numbers' places' carried' : List ℕ) (head' count' : ℕ) (unwalked : Unwalked) → Turns count t.sum (Err unwalked) numbers' places' carried' head' count' outcome → Walks (Err unwalked) row' (walk_of rule room pool n)
+  unfolding Turns
+  walking_stops row' numbers' places' carried' head' count' unwalked e = walks_stopped unwalked row' (walk_of rule room pool n) (walking_stopped unwalked e)
+
   module _ (row' : List ℕ) (met' weight' peak' : ℕ) (listed' : Listed row' met') (callees' : take met' row' ≡ noted t.opens (take met row))
-      (is-weight : weight' ≡ cond (ltb weight t.sum) t.sum weight) (is-peak : peak' ≡ cond (ltb weight t.sum) offset peak) (numbers' : List ℕ) where
+      (is-max : weight' ≡ max weight t.sum) (is-peak : peak' ≡ cond (ltb weight t.sum) offset peak) (numbers' : List ℕ) where
+    is-weight : weight' ≡ cond (ltb weight t.sum) t.sum weight
+    is-weight = is-max ∙ larger weight t.sum
+
     -- the walk goes on with so many turns
     goes : (q : List Entry) → outcome ≡ go numbers' q
         → (k : ℕ) × ((w.left ≡ suc k) × (walk_from rule room k numbers' q (found weight' peak' (take met' row')) ≡ walk_of rule room pool n))
@@ -173,22 +192,22 @@ module _ (rule : ℕ → ℕ → Tread) (room pool n : ℕ) (lawful : Lawful rul
     less : (q : List Entry) → outcome ≡ go numbers' q → (length numbers' ≡ length numbers) × (2 * slack pool numbers' + length q ≤ 2 * slack pool numbers + length queue)
     less q e = follow_less (length places) pool t.sum numbers queue t.way leads_on numbers' q e
 
-    module _ (places' carried' : List ℕ) (same : length places' ≡ length places) where
+    module _ (places' carried' : List ℕ) (head' : ℕ) (same : length places' ≡ length places) where
       -- at once, where nothing waited
-      pub walking_on : pool < 65535 → (to : ℕ) → Turns count t.sum (Turn.On to) numbers' places' carried' head outcome
-          → Walking rule room pool n numbers' places' carried' row' head count to t.sum weight' peak' met' × (2 * slack pool numbers' + count < 2 * slack pool numbers + count)
+      pub walking_on : pool < 65535 → (count' to : ℕ) → Turns count t.sum (Ok (Some to)) numbers' places' carried' head' count' outcome
+          → Walking rule room pool n numbers' places' carried' row' head' count' to t.sum weight' peak' met' × (2 * slack pool numbers' + count' < 2 * slack pool numbers + count)
       unfolding Turns
-      walking_on p to (z, (e, (f, r))) =
+      walking_on p count' to (z, (z', (e, (f, r)))) =
           let g = goes (entry to t.sum ∷ []) e in
           let l = less (entry to t.sum ∷ []) e in
           let q = waiting_length places carried head count in
           let none : waiting places carried head count ≡ [] = ap (waiting places carried head) z ∙ waiting_none places carried head in
           let s = grown_within (length places) numbers t.sum t.way (length numbers) pool numbers' (entry to t.sum) [] leads_on (ap (λ (x : List Entry). follow (length places) numbers x t.sum t.way) (sym none) ∙ e) in
-          let empty : waiting places' carried' head count ≡ [] = ap (waiting places' carried' head) z ∙ waiting_none places' carried' head in (
+          let empty : waiting places' carried' head' count' ≡ [] = ap (waiting places' carried' head') z' ∙ waiting_none places' carried' head' in (
             record {
               long = l.0 ∙ w.long;
               capacity = same ∙ w.capacity;
-              ready = rw z r;
+              ready = r;
               fresh = omega arith;
               small = omega arith;
               listed = listed';
@@ -199,53 +218,53 @@ module _ (rule : ℕ → ℕ → Tread) (room pool n : ℕ) (lawful : Lawful rul
             omega (arith, l.1),
           )
 
-      module _ (waits : ℕ) (turn : Turns count t.sum (Turn.Go waits) numbers' places' carried' head outcome) where
-        pub walking_ready : Ready numbers' places' carried' head waits
+      module _ (waits : ℕ) (turn : Turns count t.sum (Ok None) numbers' places' carried' head' waits outcome) where
+        pub walking_ready : Ready numbers' places' carried' head' waits
         unfolding Turns
         walking_ready = turn.1
 
-        out : outcome ≡ go numbers' (waiting places' carried' head waits)
+        out : outcome ≡ go numbers' (waiting places' carried' head' waits)
         unfolding Turns
         out = turn.0
 
-        skip : (g : (k : ℕ) × ((w.left ≡ suc k) × (walk_from rule room k numbers' (waiting places' carried' head waits) (found weight' peak' (take met' row')) ≡ walk_of rule room pool n)))
-            → (k : ℕ) × ((g.0 + length (skipped numbers' (waiting places' carried' head waits)) ≡ k + waits) × ((suc waits ≤ g.0) × (walk_from rule room k numbers' (skipped numbers' (waiting places' carried' head waits)) (found weight' peak' (take met' row')) ≡ walk_of rule room pool n)))
+        skip : (g : (k : ℕ) × ((w.left ≡ suc k) × (walk_from rule room k numbers' (waiting places' carried' head' waits) (found weight' peak' (take met' row')) ≡ walk_of rule room pool n)))
+            → (k : ℕ) × ((g.0 + length (skipped numbers' (waiting places' carried' head' waits)) ≡ k + waits) × ((suc waits ≤ g.0) × (walk_from rule room k numbers' (skipped numbers' (waiting places' carried' head' waits)) (found weight' peak' (take met' row')) ≡ walk_of rule room pool n)))
         skip g =
-            let l = less (waiting places' carried' head waits) out in
+            let l = less (waiting places' carried' head' waits) out in
             let q = waiting_length places carried head count in
-            let q' = waiting_length places' carried' head waits in
+            let q' = waiting_length places' carried' head' waits in
             let enough : suc waits ≤ g.0 = omega (arith, w.enough, g.1.0, l.1) in
-            let s = skip_walk rule room numbers' (waiting places' carried' head waits) (found weight' peak' (take met' row')) g.0 (omega arith) in
+            let s = skip_walk rule room numbers' (waiting places' carried' head' waits) (found weight' peak' (take met' row')) g.0 (omega arith) in
             (s.0, (omega (arith, s.1.0), (enough, sym s.1.1 ∙ g.1.1)))
 
         -- nothing waits
-        pub walking_done : Firsts First.None numbers' places' carried' (waiting places' carried' head waits) → Walks (Used.Uses weight' peak') row' (walk_of rule room pool n)
+        pub walking_done : (places'' carried'' : List ℕ) (from many : ℕ) → Firsts None numbers' places'' carried'' from many (waiting places' carried' head' waits) → Walks (uses weight' peak') row' (walk_of rule room pool n)
         unfolding Firsts Walks RowHolds
-        walking_done f =
-            let g = goes (waiting places' carried' head waits) out in
+        walking_done places'' carried'' from many f =
+            let g = goes (waiting places' carried' head' waits) out in
             let s = skip g in
-            let z : length (skipped numbers' (waiting places' carried' head waits)) ≡ 0 = ap length f in
+            let z : length (skipped numbers' (waiting places' carried' head' waits)) ≡ 0 = ap length f in
             let k = some s.0 (omega (arith, s.1.0, s.1.1.0)) in
             let e : walked numbers' (found weight' peak' (take met' row')) ≡ walk_of rule room pool n =
             sym (walk_done rule room k.0 numbers' (found weight' peak' (take met' row'))) ∙ ap₂ (λ (m : ℕ) (x : List Entry). walk_from rule room m numbers' x (found weight' peak' (take met' row'))) (sym k.1) (sym f) ∙ s.1.1.1 in
             (ap used_of e, (met', (listed', ap callees_of e)))
 
         -- the first that is not skipped
-        pub walking_next : (to with from many : ℕ) → Firsts (First.Waits to with from many) numbers' places' carried' (waiting places' carried' head waits)
-            → Walking rule room pool n numbers' places' carried' row' from many to with weight' peak' met' × (2 * slack pool numbers' + many < 2 * slack pool numbers + count)
+        pub walking_next : (places'' carried'' : List ℕ) (from many : ℕ) (e : Waiting) → length places'' ≡ length places' → Firsts (Some e) numbers' places'' carried'' from many (waiting places' carried' head' waits)
+            → Walking rule room pool n numbers' places'' carried'' row' from many e.offset e.held weight' peak' met' × (2 * slack pool numbers' + many < 2 * slack pool numbers + count)
         unfolding Firsts
-        walking_next to with from many (f, (h, (r, b))) =
-            let g = goes (waiting places' carried' head waits) out in
-            let l = less (waiting places' carried' head waits) out in
+        walking_next places'' carried'' from many e same' (f, (h, (r, b))) =
+            let g = goes (waiting places' carried' head' waits) out in
+            let l = less (waiting places' carried' head' waits) out in
             let q = waiting_length places carried head count in
-            let q' = waiting_length places' carried' head waits in
-            let q'' = waiting_length places' carried' from many in
+            let q' = waiting_length places' carried' head' waits in
+            let q'' = waiting_length places'' carried'' from many in
             let s = skip g in
-            let z : length (skipped numbers' (waiting places' carried' head waits)) ≡ suc many = ap length f ∙ ap suc q'' in
-            let m : suc many ≤ waits = skipped_le numbers' (waiting places' carried' head waits) (suc many) waits z q' in (
+            let z : length (skipped numbers' (waiting places' carried' head' waits)) ≡ suc many = ap length f ∙ ap suc q'' in
+            let m : suc many ≤ waits = skipped_le numbers' (waiting places' carried' head' waits) (suc many) waits z q' in (
               record {
                 long = l.0 ∙ w.long;
-                capacity = same ∙ w.capacity;
+                capacity = same' ∙ same ∙ w.capacity;
                 ready = r;
                 fresh = h;
                 small = b;
@@ -256,41 +275,3 @@ module _ (rule : ℕ → ℕ → Tread) (room pool n : ℕ) (lawful : Lawful rul
               },
               omega (arith, l.1),
             )
-
--- the columns keep their lengths
-pub record Same (numbers₀ places₀ carried₀ row₀ numbers places carried row : List ℕ) : Type 0 where
-  pub numbers_same : length numbers ≡ length numbers₀
-  pub places_same : length places ≡ length places₀
-  pub carried_same : length carried ≡ length carried₀
-  pub row_same : length row ≡ length row₀
-
-pub same_first : (numbers places carried row : List ℕ) → Same numbers places carried row numbers places carried row
-same_first numbers places carried row = record { numbers_same = refl; places_same = refl; carried_same = refl; row_same = refl }
-
-pub same_more : (numbers₀ places₀ carried₀ row₀ numbers places carried row numbers' places' carried' row' : List ℕ) → Same numbers₀ places₀ carried₀ row₀ numbers places carried row
-    → length numbers' ≡ length numbers → length places' ≡ length places → length carried' ≡ length carried → length row' ≡ length row → Same numbers₀ places₀ carried₀ row₀ numbers' places' carried' row'
-same_more numbers₀ places₀ carried₀ row₀ numbers places carried row numbers' places' carried' row' s n p c r =
-    record { numbers_same = n ∙ s.numbers_same; places_same = p ∙ s.places_same; carried_same = c ∙ s.carried_same; row_same = r ∙ s.row_same }
-
--- a turn and a first entry, as they were told
-pub turned_as : (count sum : ℕ) (turn told : Turn) (numbers places carried : List ℕ) (head : ℕ) (o : Outcome) → turn ≡ told → Turns count sum turn numbers places carried head o → Turns count sum told numbers places carried head o
-turned_as count sum turn told numbers places carried head o e t = rw e at t
-
-pub turned_astray : (count sum : ℕ) (turn : Turn) (numbers places carried : List ℕ) (head : ℕ) (o : Outcome) → turn ≡ Turn.Astray → Turns count sum turn numbers places carried head o → o ≡ astray
-unfolding Turns
-turned_astray count sum turn numbers places carried head o e t = rw e at t
-
-pub turned_full : (count sum : ℕ) (turn : Turn) (numbers places carried : List ℕ) (head : ℕ) (o : Outcome) → turn ≡ Turn.Full → Turns count sum turn numbers places carried head o → o ≡ full
-unfolding Turns
-turned_full count sum turn numbers places carried head o e t = rw e at t
-
-pub first_as : (first told : First) (numbers places carried : List ℕ) (queue : List Entry) → first ≡ told → Firsts first numbers places carried queue → Firsts told numbers places carried queue
-first_as first told numbers places carried queue e f = rw e at f
-
-pub walks_astray : (row : List ℕ) (w : Walked) → Used.Undecodable ≡ used_of w → Walks Used.Undecodable row w
-unfolding Walks RowHolds
-walks_astray row w e = (e, tt)
-
-pub walks_full : (row : List ℕ) (w : Walked) → Used.QueueFull ≡ used_of w → Walks Used.QueueFull row w
-unfolding Walks RowHolds
-walks_full row w e = (e, tt)

@@ -11,14 +11,13 @@
 --     Overruns          20: a function that an entry reaches, and its heaviest chain of calls, which passes the pool
 --     Recurs            21: a function that an entry reaches, and that reaches itself
 --     FirstRow          22 and 23: the first function in directory order whose walk strays, or holds too much at once
-use Rattle.codes.specs.First.{Place}
 use Rattle.std.specs.Prelude.{ℕ, suc, ◌+◌, ◌*◌, ◌≤◌, ◌<◌, min, ◌≡◌, List, ◌⊎◌, ◌↔◌, length, get_or, Ok, Some}
 use Rattle.tables.specs.Set.{size_of}
-use Rattle.flow.specs.Walk.{walk_by, end_of, marks_of, Decoded}
+use Rattle.flow.specs.Walk.{walk_by, end_of, marks_of}
 use Rattle.codes.specs.Lookup.{place_of}
 use Rattle.program.specs.declared.Room.{Room}
 use Rattle.program.specs.Program.{PoolProgram, body_of}
-use Rattle.program.specs.Refusals.{pool_input, Input}
+use Rattle.program.specs.Refusals.{pool_input}
 use Rattle.buffers.specs.declared.Tread.{Tread}
 use Rattle.buffers.specs.declared.Way.{Way}
 use Rattle.buffers.specs.Tread.{tread_of}

@@ -1,13 +1,11 @@
 -- The walk's lent columns: numbers with 0 or one more than a number of buffers, a queue in two columns that go round, and a function's row of callee
 -- cells. What the code does to them is what the definition does to its lists.
 -- Assumes nothing.
-use Rattle.std.specs.Prelude.{ℕ, zero, suc, ◌+◌, ◌-◌, ◌*◌, ◌≤◌, ◌<◌, ◌≡◌, true, false, cond, List, [], ◌∷◌, ltb, length, get_or, take}
+use Rattle.std.specs.Prelude.{ℕ, zero, suc, ◌+◌, ◌-◌, ◌*◌, ◌≤◌, ◌<◌, ◌≡◌, true, false, cond, List, [], ◌∷◌, ltb, length, get_or, take, Option, Some, None, Result, Ok, Err}
 use Rattle.cells.specs.Zeros.{zeros}
-use Rattle.buffers.specs.declared.Used.{Used}
-use Rattle.buffers.specs.Walk.{Entry, entry, Outcome, astray, full, go, has, Walked, used_of, callees_of}
-use Rattle.pool.specs.declared.walk.Raised.{Raised}
-use Rattle.pool.specs.declared.walk.Turn.{Turn}
-use Rattle.pool.specs.declared.walk.First.{First}
+use Rattle.buffers.specs.declared.Unwalked.{Unwalked}
+use Rattle.buffers.specs.Walk.{Entry, entry, Outcome, astray, full, go, has, Walked, Used, used_of, callees_of}
+use Rattle.pool.specs.declared.ring.Waiting.{Waiting}
 
 -- the place of the entry j, of columns of so many cells that go round from head on
 unfoldable pub seat_of : ℕ → ℕ → ℕ → ℕ
@@ -29,22 +27,22 @@ pub record Ready (numbers places carried : List ℕ) (head count : ℕ) : Type 0
   pub inside : head < length places
   pub few : count ≤ length places
 
--- a raise: the queue had no room, or has so many entries
-unfoldable pub Raises : Raised → List ℕ → List ℕ → List ℕ → ℕ → Outcome → Type 0
-Raises Raised.Full numbers places carried head o = o ≡ full
-Raises (Raised.Go count) numbers places carried head o = (o ≡ go numbers (waiting places carried head count)) × Ready numbers places carried head count
+-- 22 or 23, as the definition has them
+abbrev pub stopped : Unwalked → Outcome
+stopped Unwalked.Undecodable = astray
+stopped Unwalked.QueueFull = full
 
-unfoldable pub turn_of : Raised → Turn
-turn_of Raised.Full = Turn.Full
-turn_of (Raised.Go count) = Turn.Go count
+-- a raise: the queue had no room, or what waits afterwards
+unfoldable pub Raises : Result (Unit {0}) Unwalked → List ℕ → List ℕ → List ℕ → ℕ → ℕ → Outcome → Type 0
+Raises (Ok _) numbers places carried head count o = (o ≡ go numbers (waiting places carried head count)) × Ready numbers places carried head count
+Raises (Err unwalked) numbers places carried head count o = o ≡ stopped unwalked
 
--- a turn; where nothing waits, the only successor may be gone on with at once
-unfoldable pub Turns : ℕ → ℕ → Turn → List ℕ → List ℕ → List ℕ → ℕ → Outcome → Type 0
-Turns count sum Turn.Astray numbers places carried head o = o ≡ astray
-Turns count sum Turn.Full numbers places carried head o = o ≡ full
-Turns count sum (Turn.On to) numbers places carried head o =
-    (count ≡ 0) × ((o ≡ go numbers (entry to sum ∷ [])) × ((get_or numbers to 0 ≡ sum + 1) × Ready numbers places carried head 0))
-Turns count sum (Turn.Go n) numbers places carried head o = (o ≡ go numbers (waiting places carried head n)) × Ready numbers places carried head n
+-- a turn; where nothing waited, the only successor may be gone on with at once
+unfoldable pub Turns : ℕ → ℕ → Result (Option ℕ) Unwalked → List ℕ → List ℕ → List ℕ → ℕ → ℕ → Outcome → Type 0
+Turns before sum (Ok (Some to)) numbers places carried head count o =
+    (before ≡ 0) × ((count ≡ 0) × ((o ≡ go numbers (entry to sum ∷ [])) × ((get_or numbers to 0 ≡ sum + 1) × Ready numbers places carried head count)))
+Turns before sum (Ok None) numbers places carried head count o = (o ≡ go numbers (waiting places carried head count)) × Ready numbers places carried head count
+Turns before sum (Err unwalked) numbers places carried head count o = o ≡ stopped unwalked
 
 -- "a popped entry lower than the recorded number is skipped"
 unfoldable pub skipped : List ℕ → List Entry → List Entry
@@ -52,11 +50,11 @@ skipped numbers [] = []
 skipped numbers (e ∷ queue) = cond (ltb (e.held + 1) (get_or numbers e.offset 0)) (skipped numbers queue) (e ∷ queue)
 
 -- the first entry that is not skipped, and the queue after it
-unfoldable pub Firsts : First → List ℕ → List ℕ → List ℕ → List Entry → Type 0
-Firsts First.None numbers places carried queue = skipped numbers queue ≡ []
-Firsts (First.Waits offset held head count) numbers places carried queue =
-    (skipped numbers queue ≡ entry offset held ∷ waiting places carried head count)
-    × ((get_or numbers offset 0 ≤ held + 1) × (Ready numbers places carried head count × (held < 65536)))
+unfoldable pub Firsts : Option Waiting → List ℕ → List ℕ → List ℕ → ℕ → ℕ → List Entry → Type 0
+Firsts None numbers places carried head count queue = skipped numbers queue ≡ []
+Firsts (Some w) numbers places carried head count queue =
+    (skipped numbers queue ≡ entry w.offset w.held ∷ waiting places carried head count)
+    × ((get_or numbers w.offset 0 ≤ w.held + 1) × (Ready numbers places carried head count × (w.held < 65536)))
 
 -- no cell stands twice in a list
 abbrev pub Apart : List ℕ → Type 0
@@ -73,9 +71,8 @@ pub record Listed (row : List ℕ) (met : ℕ) : Type 0 where
 
 -- where a body has a weight, its row holds its callees
 unfoldable pub RowHolds : Used → List ℕ → List ℕ → Type 0
-RowHolds Used.Undecodable row callees = Unit {0}
-RowHolds Used.QueueFull row callees = Unit {0}
-RowHolds (Used.Uses weight peak) row callees = (met : ℕ) × (Listed row met × (take met row ≡ callees))
+RowHolds (Err unwalked) row callees = Unit {0}
+RowHolds (Ok usage) row callees = (met : ℕ) × (Listed row met × (take met row ≡ callees))
 
 unfoldable pub Walks : Used → List ℕ → Walked → Type 0
 Walks r row w = (r ≡ used_of w) × RowHolds r row (callees_of w)

@@ -3,3 +3,4 @@ pub mod Plain
 pub mod Columns
 pub mod Pool
 pub mod Usages
+pub mod Stated

@@ -1,7 +1,7 @@
 -- The pool check: each function in directory order decoded and walked, then for each entry the depth-first visit.
 -- Assumes nothing.
 use Rattle.flow.specs.declared.starts.Stop.{Stop}
-use Rattle.std.specs.Prelude.{ℕ, zero, suc, ◌+◌, ◌-◌, ◌*◌, cond, List, [], ◌∷◌, ltb, length, get_or, Ok, Err}
+use Rattle.std.specs.Prelude.{ℕ, zero, suc, ◌+◌, ◌-◌, ◌*◌, cond, List, [], ◌∷◌, ltb, length, get_or, Result, Ok, Err}
 use Rattle.cells.specs.Zeros.{zeros}
 use Rattle.tables.specs.Set.{size_of}
 use Rattle.flow.specs.Walk.{walk_by, end_of, marks_of, Decoded}
@@ -9,17 +9,21 @@ use Rattle.codes.specs.Lookup.{place_of}
 use Rattle.program.specs.declared.Room.{Room}
 use Rattle.program.specs.Program.{PoolProgram, body_of}
 use Rattle.program.specs.Refusals.{pool_input, Input}
-use Rattle.buffers.specs.declared.Used.{Used}
+use Rattle.buffers.specs.declared.Unwalked.{Unwalked}
 use Rattle.buffers.specs.Tread.{Temps, Opens, tread_of}
-use Rattle.buffers.specs.Walk.{Walked, undecodable, crowded, unfinished, walked, walk_of, used_of, callees_of}
+use Rattle.buffers.specs.Walk.{Walked, undecodable, crowded, unfinished, walked, walk_of, Used, used_of, callees_of}
 use Rattle.callees.specs.Callees.{temps_of, opens_of}
-use Rattle.visit.specs.declared.Visited.{Visited}
+use Rattle.visit.specs.declared.Overrun.{Overrun}
 use Rattle.visit.specs.Graph.{Graph}
-use Rattle.visit.specs.Visit.{visit_of}
+use Rattle.visit.specs.Visit.{Visited, visit_of}
 use Rattle.visit.specs.Cells.{row_at}
 use Rattle.answers.specs.declared.Fields.{Fields}
 use Rattle.answers.specs.Fields.{fields_by, no_fields, refusal_fields}
-use Rattle.pool.specs.declared.Verdict.{Verdict}
+use Rattle.pool.specs.declared.Fault.{Fault}
+
+-- the call's answer: accepted, or why not
+abbrev pub Verdict : Type 0
+Verdict = Result (Unit {0}) Fault
 
 -- "Undecodable: decoding stops"
 abbrev pub on_decoded : Decoded → Walked → Walked
@@ -54,11 +58,15 @@ abbrev pub graph_of : (ℕ → Walked) → ℕ → Graph
 graph_of walk n =
     record { calls = λ f. cond (ltb f n) (rows_in (callees_of (walk f))) []; weight = λ f. cond (ltb f n) (weight_of (walk f)) 0 }
 
--- 22 and 23 end the call
+-- 22 and 23, with the function's id
+abbrev pub fault_of : ℕ → Unwalked → Fault
+fault_of function Unwalked.Undecodable = Fault.Undecodable function
+fault_of function Unwalked.QueueFull = Fault.QueueFull function
+
+-- and they end the call
 abbrev pub on_used : ℕ → Used → Verdict → Verdict
-on_used function Used.Undecodable rest = Verdict.Undecodable function
-on_used function Used.QueueFull rest = Verdict.QueueFull function
-on_used function (Used.Uses weight peak) rest = rest
+on_used function (Ok _) rest = rest
+on_used function (Err unwalked) rest = Err (fault_of function unwalked)
 
 -- "Each function in directory order", so many from a row on
 abbrev pub functions_from : (ℕ → Walked) → List ℕ → Verdict → ℕ → ℕ → Verdict
@@ -67,9 +75,9 @@ functions_from walk ids rest (suc left) row = on_used (get_or ids row 0) (used_o
 
 -- "A callee still open gives 21 with its id; a total above the pool gives 20 at the peak offset when that function closes"
 abbrev pub on_visited : List ℕ → (ℕ → ℕ) → ℕ → Visited → Verdict
-on_visited ids peaks pool (Visited.Fine total) = Verdict.Accepted
-on_visited ids peaks pool (Visited.Cycle f) = Verdict.RecursiveCallGraph (get_or ids f 0)
-on_visited ids peaks pool (Visited.Over f total) = Verdict.ExceedsDeclaredPool (get_or ids f 0) (peaks f) total pool
+on_visited ids peaks pool (Ok total) = Ok tt
+on_visited ids peaks pool (Err (Overrun.Cycle f)) = Err (Fault.RecursiveCallGraph (get_or ids f 0))
+on_visited ids peaks pool (Err (Overrun.Over f total)) = Err (Fault.ExceedsDeclaredPool (get_or ids f 0) (peaks f) total pool)
 
 -- "Then for each entry, depth first"; entries by their rows
 unfoldable pub program_answer : (ℕ → Walked) → List ℕ → ℕ → List ℕ → Verdict
@@ -87,12 +95,7 @@ walk_at q row = body_walk size_of (temps_of q) (opens_of q) q.pool (body_of q.pr
 
 abbrev pub on_input : Input → Verdict → Verdict
 on_input (Ok _) rest = rest
-on_input Input.TooMany rest = Verdict.Refused Input.TooMany
-on_input Input.ScratchShort rest = Verdict.Refused Input.ScratchShort
-on_input (Input.ListFault k) rest = Verdict.Refused (Input.ListFault k)
-on_input (Input.IdRepeated k) rest = Verdict.Refused (Input.IdRepeated k)
-on_input (Input.BodyOutside k) rest = Verdict.Refused (Input.BodyOutside k)
-on_input Input.PoolTooLarge rest = Verdict.Refused Input.PoolTooLarge
+on_input (Err refusal) rest = Err (Fault.Refused refusal)
 
 -- the answer for an input that is not refused
 abbrev pub taken_answer : PoolProgram → Verdict
@@ -104,18 +107,18 @@ pool_answer q room cells = on_input (pool_input q room cells) (taken_answer q)
 
 -- 30 to 35 leave scratch untouched; every other answer leaves all lent scratch zero, spare cells included
 unfoldable pub scratch_after : Verdict → List ℕ → List ℕ
-scratch_after (Verdict.Refused input) column = column
-scratch_after Verdict.Accepted column = zeros (length column)
-scratch_after (Verdict.ExceedsDeclaredPool function offset depth declared) column = zeros (length column)
-scratch_after (Verdict.RecursiveCallGraph function) column = zeros (length column)
-scratch_after (Verdict.Undecodable function) column = zeros (length column)
-scratch_after (Verdict.QueueFull function) column = zeros (length column)
+scratch_after (Ok _) column = zeros (length column)
+scratch_after (Err (Fault.Refused refusal)) column = column
+scratch_after (Err (Fault.ExceedsDeclaredPool function offset depth declared)) column = zeros (length column)
+scratch_after (Err (Fault.RecursiveCallGraph function)) column = zeros (length column)
+scratch_after (Err (Fault.Undecodable function)) column = zeros (length column)
+scratch_after (Err (Fault.QueueFull function)) column = zeros (length column)
 
 -- the number and the values of an answer
 unfoldable pub fields_of : Verdict → Fields
-fields_of (Verdict.Refused input) = refusal_fields input
-fields_of Verdict.Accepted = no_fields
-fields_of (Verdict.ExceedsDeclaredPool function offset depth declared) = fields_by 20 function offset depth declared 0
-fields_of (Verdict.RecursiveCallGraph function) = fields_by 21 function 0 0 0 0
-fields_of (Verdict.Undecodable function) = fields_by 22 function 0 0 0 0
-fields_of (Verdict.QueueFull function) = fields_by 23 function 0 0 0 0
+fields_of (Ok _) = no_fields
+fields_of (Err (Fault.Refused refusal)) = refusal_fields (Err refusal)
+fields_of (Err (Fault.ExceedsDeclaredPool function offset depth declared)) = fields_by 20 function offset depth declared 0
+fields_of (Err (Fault.RecursiveCallGraph function)) = fields_by 21 function 0 0 0 0
+fields_of (Err (Fault.Undecodable function)) = fields_by 22 function 0 0 0 0
+fields_of (Err (Fault.QueueFull function)) = fields_by 23 function 0 0 0 0

@@ -3,29 +3,31 @@
 #![tactic(auto)]
 
 mod bodies;
+mod ring;
 mod tread;
 mod walk;
 
-ghost use Rattle.std.specs.Prelude.{◌≡◌, ◌<◌, length, get_or};
+ghost use Rattle.std.specs.Prelude.{◌≡◌, length};
 ghost use Rattle.cells.specs.Zeros.{ZeroAfter};
-ghost use Rattle.program.specs.Program.{list_of, functions_of, program_of, descriptors_of, pool_program_of};
 ghost use Rattle.program.specs.Refusals.{room_of};
+ghost use Rattle.program.specs.Stated.{pool_program_in, room_in, SameColumns};
 ghost use Rattle.program.specs.Taken.{PoolTaken};
-ghost use Rattle.visit.specs.Visit.{visit_of};
-ghost use Rattle.visit.specs.Cells.{graph_in, entry_rows};
-ghost use Rattle.pool.specs.Pool.{on_visited, taken_answer, pool_answer, scratch_after, fields_of};
+ghost use Rattle.pool.specs.declared.Fault.TheVariants.{Refused};
+ghost use Rattle.pool.specs.Pool.{fault_of, taken_answer, pool_answer, scratch_after, fields_of};
+ghost use Rattle.pool.specs.Stated.{visit_in};
 ghost use Rattle.pool.specs.Usages.{judged_of};
 
 use answers::Fields;
-use bodies::{Ended, Usages};
-use program::{Input, Room};
-use visit::Visited;
+use bodies::Usages;
+use buffers::Unwalked;
+use callees::Sources;
+use program::{PoolProgram, Refusal, Scratch};
+use visit::Overrun;
 
-// The call's answer: the input refused, accepted, 20 with the function that closed above the pool and its peak offset, 21, 22 or 23.
-#[derive(Drop)]
-pub enum Verdict {
-    Refused(Input),
-    Accepted,
+// Why the call does not accept: the input refused, 20 with the function that closed above the pool and its peak offset, 21, 22 or 23.
+#[derive(Clone, Copy, PartialEq, Eq, Debug)]
+pub enum Fault {
+    Refused(Refusal),
     ExceedsDeclaredPool {
         function: u16,
         offset: usize,
@@ -37,44 +39,54 @@ pub enum Verdict {
     QueueFull(u16),
 }
 
+impl From<Refusal> for Fault {
+    ghost from_gives = { λ refusal fault. fault ≡ Refused refusal };
+
+    fn from(refusal: Refusal) -> Fault {
+        Fault::Refused(refusal)
+    }
+}
+
+impl Fault {
+    // 22 or 23 in a function.
+    fn of(function: u16, unwalked: Unwalked) -> Fault
+        ensures { result ≡ fault_of function unwalked }
+    {
+        match unwalked {
+            Unwalked::Undecodable => Fault::Undecodable(function),
+            Unwalked::QueueFull => Fault::QueueFull(function),
+        }
+    }
+}
+
 // The visit's answer, with ids and peak offsets in the place of rows.
-fn visited(
-    cells: &[u8],
-    weights: &[u16],
-    peaks: &[usize],
-    ids: &[u16],
-    entries: &[u16],
-    pool: u16,
-) -> Verdict
-    ensures { result ≡ on_visited ids.now (λ f. get_or peaks.now f 0) pool (visit_of (graph_in cells.now weights.now) pool (entry_rows ids.now entries.now)) }
+fn visited(cells: &[u8], usages: &Usages, program: &PoolProgram<'_>) -> Result<(), Fault>
+    ensures { result ≡ visit_in program.now cells.now usages.now }
 {
-    let seen = visit::visit_entries(cells, weights, pool, ids, entries);
+    let ids = program.program.functions.ids;
+    let seen = visit::visit_entries(cells, &usages.weights, program.pool, ids, program.entries);
     match seen {
-        Visited::Fine(_) => Verdict::Accepted,
-        Visited::Cycle(row) => Verdict::RecursiveCallGraph(cells::at(ids, row)),
-        Visited::Over(row, total) => Verdict::ExceedsDeclaredPool {
+        Ok(_) => Ok(()),
+        Err(Overrun::Cycle(row)) => Err(Fault::RecursiveCallGraph(cells::at(ids, row))),
+        Err(Overrun::Over(row, total)) => Err(Fault::ExceedsDeclaredPool {
             function: cells::at(ids, row),
-            offset: cells::at(peaks, row),
+            offset: cells::at(&usages.peaks, row),
             depth: total,
-            declared: pool,
-        },
+            declared: program.pool,
+        }),
     }
 }
 
 // 22 and 23, else the visit.
-fn judged(cells: &[u8], ids: &[u16], entries: &[u16], pool: u16, usages: Usages) -> Verdict
-    ensures { result ≡ judged_of usages.ended (on_visited ids.now (λ f. get_or usages.peaks f 0) pool (visit_of (graph_in cells.now usages.weights) pool (entry_rows ids.now entries.now))) }
+#[tactic(auto, unfolding(crate::specs::Usages::judged_of))]
+fn judged(
+    cells: &[u8],
+    usages: Result<Usages, Fault>,
+    program: &PoolProgram<'_>,
+) -> Result<(), Fault>
+    ensures { result ≡ judged_of usages (visit_in program.now cells.now) }
 {
-    let ended = usages.ended;
-    match ended {
-        Ended::Walked => {
-            let weights = usages.weights;
-            let peaks = usages.peaks;
-            visited(cells, &weights, &peaks, ids, entries, pool)
-        }
-        Ended::Undecodable(function) => Verdict::Undecodable(function),
-        Ended::QueueFull(function) => Verdict::QueueFull(function),
-    }
+    visited(cells, &usages?, program)
 }
 
 // The program of an input that is not refused, over scratch that may hold anything: all of it is cleared once.
@@ -83,151 +95,77 @@ fn checked(
     depths: &mut [u32],
     queue: &mut [u16],
     queue_depths: &mut [u16],
-    callee_cells: &mut [u8],
-    ids: &[u16],
-    parameters: &[u16],
-    maxima: &[u16],
-    offsets: &[usize],
-    lengths: &[usize],
-    list_ids: &[u16],
-    counts: &[u16],
-    flags: &[u16],
-    code: &[u8],
-    types: &[u16],
-    callees: &[u16],
-    entries: &[u16],
-    pool: u16,
-) -> Verdict
-    requires { PoolTaken (pool_program_of (program_of (functions_of ids.now parameters.now maxima.now offsets.now lengths.now) (list_of list_ids.now counts.now flags.now) code.now) (descriptors_of types.now callees.now) entries.now pool) (room_of (length marks.old) (length depths.old) (length queue.old) (length queue_depths.old)) (length callee_cells.old) }
-    ensures value { result ≡ taken_answer (pool_program_of (program_of (functions_of ids.now parameters.now maxima.now offsets.now lengths.now) (list_of list_ids.now counts.now flags.now) code.now) (descriptors_of types.now callees.now) entries.now pool) }
-    ensures zero_after { ZeroAfter marks.old marks.new × (ZeroAfter depths.old depths.new × (ZeroAfter queue.old queue.new × (ZeroAfter queue_depths.old queue_depths.new × ZeroAfter callee_cells.old callee_cells.new))) }
+    cells: &mut [u8],
+    program: &PoolProgram<'_>,
+) -> Result<(), Fault>
+    requires { PoolTaken (pool_program_in program.now) (room_of (length marks.old) (length depths.old) (length queue.old) (length queue_depths.old)) (length cells.old) }
+    ensures value { result ≡ taken_answer (pool_program_in program.now) }
+    ensures zero_after { ZeroAfter marks.old marks.new × (ZeroAfter depths.old depths.new × (ZeroAfter queue.old queue.new × (ZeroAfter queue_depths.old queue_depths.new × ZeroAfter cells.old cells.new))) }
 {
+    prove!(program.pool < 65535); // 35 has been tested, so that a weight past the pool is a number of 16 bits
     let sizes = tables::sizes();
     let words = tables::words();
     let mut hints = [0u16; 8192];
-    codes::note_for(&mut hints, list_ids, code.len());
+    codes::note_for(
+        &mut hints,
+        program.program.list.ids,
+        program.program.code.len(),
+    );
     cells::clear(marks);
     cells::clear(depths);
-    cells::clear(callee_cells);
-    let usages = bodies::all(
-        marks,
-        depths,
-        queue,
-        queue_depths,
-        callee_cells,
-        &sizes,
-        &words,
-        ids,
-        offsets,
-        lengths,
-        &hints,
-        list_ids,
-        flags,
-        types,
-        callees,
-        code,
-        pool,
-    );
-    let verdict = judged(callee_cells, ids, entries, pool, usages);
+    cells::clear(cells);
+    let sources = Sources {
+        words: &words,
+        hints: &hints,
+        program: *program,
+    };
+    let usages = bodies::all(marks, depths, queue, queue_depths, cells, &sizes, &sources);
+    let verdict = judged(cells, usages, program);
     cells::clear(queue);
     cells::clear(queue_depths);
-    cells::clear(callee_cells);
+    cells::clear(cells);
     verdict
 }
 
 // The pool call. 30 to 35 leave the scratch untouched; every other answer leaves all of it zero, spare cells included.
 pub fn pool_check(
-    marks: &mut [u8],
-    depths: &mut [u32],
-    queue: &mut [u16],
-    queue_depths: &mut [u16],
-    callee_cells: &mut [u8],
-    ids: &[u16],
-    parameters: &[u16],
-    maxima: &[u16],
-    offsets: &[usize],
-    lengths: &[usize],
-    list_ids: &[u16],
-    counts: &[u16],
-    flags: &[u16],
-    code: &[u8],
-    types: &[u16],
-    callees: &[u16],
-    entries: &[u16],
-    pool: u16,
-) -> Verdict
-    ensures value { result ≡ pool_answer (pool_program_of (program_of (functions_of ids.now parameters.now maxima.now offsets.now lengths.now) (list_of list_ids.now counts.now flags.now) code.now) (descriptors_of types.now callees.now) entries.now pool) (room_of (length marks.old) (length depths.old) (length queue.old) (length queue_depths.old)) (length callee_cells.old) }
-    ensures marks_after { (marks.new ≡ scratch_after result marks.old) × ((depths.new ≡ scratch_after result depths.old) × ((queue.new ≡ scratch_after result queue.old) × ((queue_depths.new ≡ scratch_after result queue_depths.old) × (callee_cells.new ≡ scratch_after result callee_cells.old)))) }
+    scratch: &mut Scratch<'_>,
+    cells: &mut [u8],
+    program: &PoolProgram<'_>,
+) -> Result<(), Fault>
+    ensures value { result ≡ pool_answer (pool_program_in program.now) (room_in scratch.old) (length cells.old) }
+    ensures marks_after { (scratch.new.marks.now ≡ scratch_after result scratch.old.marks.now) × ((scratch.new.depths.now ≡ scratch_after result scratch.old.depths.now) × ((scratch.new.queue.now ≡ scratch_after result scratch.old.queue.now) × ((scratch.new.queue_depths.now ≡ scratch_after result scratch.old.queue_depths.now) × (cells.new ≡ scratch_after result cells.old)))) }
+    ensures same { SameColumns scratch.old scratch.new }
 {
-    let room = Room {
-        marks: marks.len(),
-        depths: depths.len(),
-        queue: queue.len(),
-        queue_depths: queue_depths.len(),
-    };
-    let input = program::pool_input(
-        ids,
-        parameters,
-        maxima,
-        offsets,
-        lengths,
-        list_ids,
-        counts,
-        flags,
-        code,
-        types,
-        callees,
-        entries,
-        pool,
-        room,
-        callee_cells.len(),
-    );
-    if program::is_taken(input) {
-        return checked(
-            marks,
-            depths,
-            queue,
-            queue_depths,
-            callee_cells,
-            ids,
-            parameters,
-            maxima,
-            offsets,
-            lengths,
-            list_ids,
-            counts,
-            flags,
-            code,
-            types,
-            callees,
-            entries,
-            pool,
-        );
-    }
-    Verdict::Refused(input)
-}
-
-fn wide(x: u16) -> u64
-    ensures { result ≡ x }
-{
-    x as u64
+    program::pool_input(program, scratch.room(), cells.len())?;
+    checked(
+        scratch.marks,
+        scratch.depths,
+        scratch.queue,
+        scratch.queue_depths,
+        cells,
+        program,
+    )
 }
 
 // 01's number and values of an answer.
-pub fn fields(verdict: Verdict) -> Fields
+#[tactic(auto, unfolding(crate::specs::Pool::fields_of))]
+pub fn fields(verdict: Result<(), Fault>) -> Fields
     ensures { result ≡ fields_of verdict }
 {
     match verdict {
-        Verdict::Refused(input) => answers::of_refusal(input),
-        Verdict::Accepted => answers::accepted(),
-        Verdict::ExceedsDeclaredPool {
-            function,
-            offset,
-            depth,
-            declared,
-        } => answers::fields_by(20, function, offset, wide(depth), wide(declared), 0),
-        Verdict::RecursiveCallGraph(function) => answers::fields_by(21, function, 0, 0, 0, 0),
-        Verdict::Undecodable(function) => answers::fields_by(22, function, 0, 0, 0, 0),
-        Verdict::QueueFull(function) => answers::fields_by(23, function, 0, 0, 0, 0),
+        Ok(()) => answers::accepted(),
+        Err(Fault::Refused(refusal)) => answers::of_refusal(Err(refusal)),
+        Err(
+            Fault::ExceedsDeclaredPool {
+                function,
+                offset,
+                depth,
+                declared,
+            },
+        ) => answers::fields_by(20, function, offset, depth as u64, declared as u64, 0),
+        Err(Fault::RecursiveCallGraph(function)) => answers::fields_by(21, function, 0, 0, 0, 0),
+        Err(Fault::Undecodable(function)) => answers::fields_by(22, function, 0, 0, 0, 0),
+        Err(Fault::QueueFull(function)) => answers::fields_by(23, function, 0, 0, 0, 0),
     }
 }

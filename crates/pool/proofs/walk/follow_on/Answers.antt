@@ -1,29 +1,35 @@
 -- `pool::walk::follow_on` meets its contract: each way on is a case of `follow`.
 -- Assumes nothing.
-use native.Mathlib.Omega.{arith}
-use Rattle.pool.proofs.Raising.{leads_goes, leads_forks, turn_ends, turn_astray, turn_goes, turn_forks, turn_raises, alone, ready_alone}
+use Rattle.std.proofs.lemmas.Result.{err_from_is_err_and}
+use Rattle.pool.proofs.Raising.{turn_ends, turn_astray, turn_kept, turn_on, turn_raised, turn_full, first_full, both_raised, second_full, raised_ready, leads_goes}
 use Rattle.pool.proofs.walk.follow_on.Goals as goal
 
-pub straight_on-requires : goal.straight_on-requires
-straight_on-requires c = let l = leads_goes _ _ _ _ _ c.in-Goes.is c.requires.leads in record { ready = ready_alone _ _ _ _ _ c.if-count-eq0.true c.requires.ready; to_in_bounds = (l.0, omega (arith, l.1)) }
+pub returns-then-sum-at-clause-turns : goal.returns-then-sum-at-clause-turns
+returns-then-sum-at-clause-turns c = turn_kept _ _ _ _ _ _ _ _ c.in-Goes.is c.requires.ready _ c.at.ensures c.if-sum-at.true
 
-pub returns-then-count-eq0 : goal.returns-then-count-eq0
-returns-then-count-eq0 c = let a = c.args in turn_goes a.numbers.now a.places.now a.carried.now a.head a.count a.sum a.way _ _ _ _ _ c.in-Goes.is (alone a.numbers.now a.places.now a.carried.now a.head a.count a.sum _ _ _ _ _ c.if-count-eq0.true c.straight_on.ensures)
+pub returns-then-ring-eq0-clause-turns : goal.returns-then-ring-eq0-clause-turns
+returns-then-ring-eq0-clause-turns c = turn_on _ _ _ _ _ _ _ _ c.in-Goes.is c.requires.ready c.if-ring-eq0.true _ c.at.ensures c.if-sum-at.false (leads_goes _ _ _ _ _ c.in-Goes.is c.requires.leads).0
 
-pub raise_one-requires : goal.raise_one-requires
-raise_one-requires c = let l = leads_goes _ _ _ _ _ c.in-Goes.is c.requires.leads in record { ready = c.requires.ready; to_in_bounds = (l.0, omega (arith, l.1)) }
+pub returns-in_err-raise-in-Goes-clause-turns : goal.returns-in_err-raise-in-Goes-clause-turns
+returns-in_err-raise-in-Goes-clause-turns c = let p = err_from_is_err_and c.from_residual.result c.from_residual.ensures.1 in rw (p.1, p.2) (turn_full _ _ _ _ _ _ _ _ c.in-Goes.is _ _ _ _ _ _ c.raise.ensures.raises _ c.in_err-raise-in-Goes.was)
 
-pub raise_both-requires : goal.raise_both-requires
-raise_both-requires c = let l = leads_forks _ _ _ _ _ _ c.in-Forks.is c.requires.leads in record { ready = c.requires.ready; to_in_bounds = (l.0, (l.1.0, omega (arith, l.1.1))) }
+pub returns-in_err-raise-in-Forks-clause-turns : goal.returns-in_err-raise-in-Forks-clause-turns
+returns-in_err-raise-in-Forks-clause-turns c = let p = err_from_is_err_and c.from_residual-in_err-raise-in-Forks.result c.from_residual-in_err-raise-in-Forks.ensures.1 in rw (p.1, p.2) (first_full _ _ _ _ _ _ _ _ _ c.in-Forks.is _ _ _ _ _ _ c.raise-in-Forks.ensures.raises _ c.in_err-raise-in-Forks.was)
 
-pub returns-in-Ends : goal.returns-in-Ends
-returns-in-Ends c = turn_ends _ _ _ _ _ _ _ c.requires.ready c.in-Ends.is
+pub raise-requires-in-Forks-2-clause-ready : goal.raise-requires-in-Forks-2-clause-ready
+raise-requires-in-Forks-2-clause-ready c = raised_ready _ _ _ _ _ _ _ c.in_ok-raise-in-Forks.was c.raise-in-Forks.ensures.raises
 
-pub returns-in-Astray : goal.returns-in-Astray
-returns-in-Astray c = turn_astray _ _ _ _ _ _ _ c.in-Astray.is
+pub returns-in_err-raise-in-Forks-2-clause-turns : goal.returns-in_err-raise-in-Forks-2-clause-turns
+returns-in_err-raise-in-Forks-2-clause-turns c = let p = err_from_is_err_and c.from_residual-in_err-raise-in-Forks-2.result c.from_residual-in_err-raise-in-Forks-2.ensures.1 in rw (p.1, p.2) (second_full _ _ _ _ _ _ _ _ _ c.in-Forks.is _ _ _ _ _ _ c.raise-in-Forks.ensures.raises c.in_ok-raise-in-Forks.was c.raise-in-Forks.ensures.same _ _ _ _ _ _ c.raise-in-Forks-2.ensures.raises _ c.in_err-raise-in-Forks-2.was)
 
-pub returns-else-count-eq0 : goal.returns-else-count-eq0
-returns-else-count-eq0 c = let a = c.args in turn_goes a.numbers.now a.places.now a.carried.now a.head a.count a.sum a.way _ _ _ _ _ c.in-Goes.is (turn_raises _ _ _ _ _ _ _ _ _ c.turned.ensures c.raise_one.ensures)
+pub returns-in-Ends-clause-turns : goal.returns-in-Ends-clause-turns
+returns-in-Ends-clause-turns c = turn_ends _ _ _ _ _ _ _ c.requires.ready c.in-Ends.is
 
-pub returns-in-Forks : goal.returns-in-Forks
-returns-in-Forks c = let a = c.args in turn_forks a.numbers.now a.places.now a.carried.now a.head a.count a.sum a.way _ _ _ _ _ _ c.in-Forks.is (turn_raises _ _ _ _ _ _ _ _ _ c.turned-in-Forks.ensures c.raise_both.ensures)
+pub returns-in-Astray-clause-turns : goal.returns-in-Astray-clause-turns
+returns-in-Astray-clause-turns c = turn_astray _ _ _ _ _ _ _ c.in-Astray.is
+
+pub returns-in_ok-raise-in-Goes-clause-turns : goal.returns-in_ok-raise-in-Goes-clause-turns
+returns-in_ok-raise-in-Goes-clause-turns c = turn_raised _ _ _ _ _ _ _ _ c.in-Goes.is _ _ _ _ _ _ c.raise.ensures.raises c.in_ok-raise-in-Goes.was
+
+pub returns-in_ok-raise-in-Forks-2-clause-turns : goal.returns-in_ok-raise-in-Forks-2-clause-turns
+returns-in_ok-raise-in-Forks-2-clause-turns c = both_raised _ _ _ _ _ _ _ _ _ c.in-Forks.is _ _ _ _ _ _ c.raise-in-Forks.ensures.raises c.in_ok-raise-in-Forks.was c.raise-in-Forks.ensures.same _ _ _ _ _ _ c.raise-in-Forks-2.ensures.raises c.in_ok-raise-in-Forks-2.was
