@@ -10,10 +10,11 @@ use lib.Seq.{take_at}
 use Rattle.program.specs.Program.{PoolProgram, list_of, functions_of, program_of, descriptors_of, pool_program_of}
 use Rattle.program.specs.declared.Refusal.{Refusal}
 use Rattle.program.specs.declared.Room.{Room}
-use Rattle.program.specs.Refusals.{refusal_number, refusal_place, pool_input, Input}
+use Rattle.program.specs.Refusals.{refusal_number, refusal_place, room_of, pool_input, Input}
 use Rattle.file.specs.declared.Sizes.{Sizes}
 use Rattle.file.specs.declared.Refused.{Refused}
 use Rattle.file.specs.declared.Layout.{Layout}
+use Rattle.file.specs.Numbers.{refused}
 use Rattle.file.specs.Columns.{over, column_at}
 use Rattle.file.specs.Tables.{layout_of}
 use Rattle.file.specs.Transposed.{column_length}
@@ -27,11 +28,12 @@ use Rattle.std.specs.Prelude.{Result, Ok, Err}
 use Rattle.desk.specs.Desk.{Answer, fronts_of, full_room, both_of, on_input, program_answer, program_in, answer_to, desk_answer}
 
 -- both calls' answers over scratch of the full size
-pub both : (q : PoolProgram) {x y : Fields} {u : stack.Verdict} {v : pool.Verdict} {r r' : Room} {n : ℕ} →
-    x ≡ stack.fields_of u → y ≡ pool.fields_of v → u ≡ stack.stack_answer q.program r → v ≡ pool.pool_answer q r' n →
-    r ≡ full_room → r' ≡ full_room → n ≡ 16384 → ◌≡◌ {A = Checked} (record { stack = x; pool = y }) (both_of q)
-unfolding both_of
-both q hx hy hu hv hr hr' hn = rw (hx, hy, hu, hv, hr, hr', hn)
+pub both : (q : PoolProgram) {x y : Fields} {u : stack.Verdict} {v : pool.Verdict} {m d k e m' d' k' e' n : ℕ} →
+    x ≡ stack.fields_of u → y ≡ pool.fields_of v → u ≡ stack.stack_answer q.program (room_of m d k e) → v ≡ pool.pool_answer q (room_of m' d' k' e') n →
+    m ≡ 12288 → d ≡ 12289 → k ≡ 24578 → e ≡ 24578 → m' ≡ 12288 → d' ≡ 12289 → k' ≡ 24578 → e' ≡ 24578 → n ≡ 16384 →
+    ◌≡◌ {A = Checked} (record { stack = x; pool = y }) (both_of q)
+unfolding both_of full_room
+both q hx hy hu hv hm hd hk he hm' hd' hk' he' hn = rw (hx, hy, hu, hv, hm, hd, hk, he, hm', hd', hk', he', hn)
 
 -- an input that is taken, and one that is not
 pub taken : (q : PoolProgram) {input : Input} {r : Checked} → input ≡ pool_input q full_room 16384 → input ≡ Ok tt → r ≡ both_of q →
@@ -69,7 +71,7 @@ readable file =
 refused_by : (s : Stated) (r : Refused) → outcome_of s ≡ Err r → ◌≡◌ {A = Answer} (Err r) (answer_to s)
 unfolding outcome_of answer_to
 refused_by (states p) r e = absurd (let z : ◌≡◌ {A = ℕ} 0 1 = cc in omega arith)
-refused_by (refuses n k) r e = sym e
+refused_by (refuses n k) r e = let z : refused n k ≡ r = cc in ap Err (sym z)
 
 file_refused : (found : Stated) (file : List ℕ) (r : Refused) → found ≡ stated.stated file → outcome_of found ≡ Err r → ◌≡◌ {A = Answer} (Err r) (desk_answer file)
 unfolding desk_answer
@@ -106,7 +108,7 @@ read_by : (file : List ℕ) (r : Result Layout Refused) (lent after : Columns) (
     × ((after ≡ laid_over (bench_of file layout).tables lent) × (program_answer (program_in (bench_of file layout)) ≡ answer_to (stated_by file r))))
 unfolding outcome_of stated_by leaves answer_to
 read_by file (Ok layout) lent after s e a = (layout, (cc, (a, refl)))
-read_by file (Err refused) lent after s e a = absurd (let z : ◌≡◌ {A = ℕ} 0 1 = cc in omega arith)
+read_by file (Err r) lent after s e a = absurd (let z : ◌≡◌ {A = ℕ} 0 1 = cc in omega arith)
 
 fronts : (file : List ℕ) (layout : Layout) (lent after : Columns) (s : Sizes) → sizes_of (bench_of file layout) ≡ s →
     after ≡ laid_over (bench_of file layout).tables lent → Fronts (bench_of file layout) s after

@@ -4,6 +4,7 @@ use Rattle.std.specs.Prelude.{ℕ, cond, List, take, Result, Ok, Err}
 use Rattle.program.specs.declared.Room.{Room}
 use Rattle.program.specs.Program.{PoolProgram, list_of, functions_of, program_of, descriptors_of, pool_program_of}
 use Rattle.program.specs.Refusals.{input_number, input_place, is_taken, room_of, pool_input, Input}
+use Rattle.file.specs.Numbers.{refused}
 use Rattle.file.specs.Stated.{Columns, Bench, Stated, states, refuses, stated}
 use Rattle.stack.specs.Stack as stack
 use Rattle.pool.specs.Pool as pool
@@ -60,7 +61,7 @@ fronts_of s c =
 
 unfoldable pub answer_to : Stated → Answer
 answer_to (states p) = program_answer (program_in p)
-answer_to (refuses number place) = Err (record { number = number; place = place })
+answer_to (refuses number place) = Err (refused number place)
 
 unfoldable pub desk_answer : List ℕ → Answer
 desk_answer file = answer_to (stated file)

@@ -7,7 +7,7 @@ use native.Mathlib.Omega.{arith}
 use mathlib.Core.Path.{◌≡◌, refl}
 use mathlib.Core.Logic.{inl}
 use mathlib.Core.List.{List, [], ◌∷◌}
-use Rattle.cells.specs.Zeros.{copies, zeros}
+use Rattle.cells.specs.Zeros.{copies}
 use Rattle.tables.specs.declared.Effect.{Effect}
 use Rattle.tables.specs.Set.{effect, size_of, move_of, temp_of, instruction_set}
 use Rattle.flow.specs.declared.Step.TheVariants.{Instruction}

@@ -16,7 +16,7 @@ use Rattle.tables.specs.declared.Effect.{Effect}
 use Rattle.flow.specs.declared.Flow.{Flow}
 use Rattle.flow.specs.declared.Flow.TheVariants.{Next, Jump, Branch, Return}
 use Rattle.flow.specs.Decode.{operands_at, flow_of}
-use Rattle.rules.specs.Look.{Effects, larger, flowing, look_of, Look}
+use Rattle.rules.specs.Look.{Known, Effects, larger, flowing, look_of, Look}
 use Rattle.rules.specs.Assigned.{Holds, Names}
 use Rattle.rules.proofs.Cases.{flowing_next, jump_legal, branch_legal, look_flow}
 use Rattle.rules.proofs.Held.{look_held, end_held, return_held, jump_held, branch_held}

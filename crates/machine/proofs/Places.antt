@@ -15,7 +15,7 @@ use Rattle.flow.specs.declared.Flow.{Flow}
 use Rattle.flow.specs.declared.Flow.TheVariants.{Next, Jump, Branch, Return}
 use Rattle.flow.specs.declared.Spot.{Spot}
 use Rattle.flow.specs.Decode.{step_by, moved, target_of}
-use Rattle.flow.specs.Walk.{walk_by, end_of, is_start, marks_of, Decoded}
+use Rattle.flow.specs.Walk.{walk_by, end_of, is_start, marks_of}
 use Rattle.flow.proofs.Laws.{Stands, stands, step_end}
 use Rattle.flow.proofs.StartLaws.{marked, Begins, begins}
 use Rattle.flow.proofs.Next.{Standing, next_stands, target_stands, marks_are}

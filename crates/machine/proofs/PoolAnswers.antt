@@ -3,7 +3,7 @@
 use Rattle.std.specs.Prelude.{Ok, Err}
 use Rattle.pool.specs.declared.Fault.{Fault}
 use mathlib.Core.Path.{◌≡◌, refl}
-use Rattle.cells.specs.Zeros.{copies, zeros}
+use Rattle.cells.specs.Zeros.{copies}
 use Rattle.tables.specs.Set.{size_of, move_of, temp_of, instruction_set}
 use Rattle.flow.specs.Decode.{step_by, operands_at, word_at, flow_of, moved, target_of}
 use Rattle.flow.specs.Walk.{walk_by, marks_of}

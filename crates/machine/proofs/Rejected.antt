@@ -9,7 +9,7 @@ use native.Mathlib.Omega.{arith}
 use mathlib.Core.Path.{◌≡◌, refl}
 use mathlib.Core.Logic.{inl, inr, ⊎_elim}
 use mathlib.Core.List.{List, [], ◌∷◌}
-use Rattle.cells.specs.Zeros.{copies, zeros}
+use Rattle.cells.specs.Zeros.{copies}
 use Rattle.tables.specs.Set.{effect, size_of, move_of, temp_of, instruction_set}
 use Rattle.flow.specs.declared.Step.TheVariants.{End}
 use Rattle.flow.specs.declared.Flow.TheVariants.{Return}

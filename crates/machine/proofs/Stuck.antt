@@ -3,7 +3,7 @@
 -- Assumes nothing.
 --     step_or_stuck    a step, or one of 01's reasons
 --     stuck_stays      and no step where there is a reason
-use Rattle.rules.specs.declared.Unknown.{Unknown}
+use Rattle.rules.specs.declared.Unknown as of-rules
 use Rattle.rules.specs.Look.{Known}
 use Rattle.std.specs.Prelude.{Ok, Err}
 use Prim.Native.Nat.{ℕ, ◌+◌}
@@ -56,8 +56,8 @@ module _ (q : PoolProgram) (fr : Frame) (below : List Frame) where
   knows opcode size e (Ok f) g =
       let x : Acts q fr = record { opcode = opcode; size = size; effect = f; decodes = e; known = g } in
       flows x (flow_at q fr x) refl
-  knows opcode size e (Err (Unknown.Builtin id)) g = inr (no_builtin opcode size id e g)
-  knows opcode size e (Err (Unknown.Callee id)) g = inr (no_callee opcode size id e g)
+  knows opcode size e (Err (of-rules.Unknown.Builtin id)) g = inr (no_builtin opcode size id e g)
+  knows opcode size e (Err (of-rules.Unknown.Callee id)) g = inr (no_callee opcode size id e g)
 
   decodes : (s : decoding.Step) → decoded_at q fr ≡ s → Either
   decodes End e = inl (below, ends e)
@@ -109,8 +109,8 @@ module _ (q : PoolProgram) (fr : Frame) where
   acting : Stuck q fr → (y : Acts q fr) → ((to : ℕ) × Onward (marks_of size_of (body_in q fr)) (length (body_in q fr)) (fr.offset + y.size) (flow_at q fr y) to) ⊎ (flow_at q fr y ≡ Return) → ⊥
   acting (unassigned byte e) y w = acts_not q fr y (Unknown byte) e (λ f. let z : ◌≡◌ {A = ℕ} 0 1 = cc in omega arith)
   acting (cut opcode e) y w = acts_not q fr y (Truncated opcode) e (λ f. let z : ◌≡◌ {A = ℕ} 0 1 = cc in omega arith)
-  acting (no_builtin opcode size id e g) y w = let f = known_not q fr y opcode size (Err (Unknown.Builtin id)) e g in let z : ◌≡◌ {A = ℕ} 0 1 = cc in omega arith
-  acting (no_callee opcode size id e g) y w = let f = known_not q fr y opcode size (Err (Unknown.Callee id)) e g in let z : ◌≡◌ {A = ℕ} 0 1 = cc in omega arith
+  acting (no_builtin opcode size id e g) y w = let f = known_not q fr y opcode size (Err (of-rules.Unknown.Builtin id)) e g in let z : ◌≡◌ {A = ℕ} 0 1 = cc in omega arith
+  acting (no_callee opcode size id e g) y w = let f = known_not q fr y opcode size (Err (of-rules.Unknown.Callee id)) e g in let z : ◌≡◌ {A = ℕ} 0 1 = cc in omega arith
   acting (no_target x word spot f g) y w =
       let s = same x y in
       let f' : (flow_at q fr y ≡ Jump word) ⊎ (flow_at q fr y ≡ Branch word) = ⊎_elim (λ e. inl (s.0 ∙ e)) (λ e. inr (s.0 ∙ e)) f in

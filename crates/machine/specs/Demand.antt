@@ -4,7 +4,7 @@ use Rattle.std.specs.Prelude.{ℕ, ◌<◌, ◌≡◌, List, ◌↔◌, length, 
 use Rattle.tables.specs.Set.{size_of, move_of}
 use Rattle.program.specs.declared.Room.{Room}
 use Rattle.program.specs.Program.{PoolProgram, body_of}
-use Rattle.program.specs.Refusals.{stack_input, Input}
+use Rattle.program.specs.Refusals.{stack_input}
 use Rattle.effects.specs.Effects.{known_of}
 use Rattle.stack.specs.Stack.{stack_answer}
 use Rattle.stack.specs.Exact.{Balanced}

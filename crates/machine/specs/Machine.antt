@@ -9,7 +9,7 @@
 --     Stuck       where there is none
 --     Run         no or more steps, from an entry's frame
 --     live        the buffers of the open frames
-use Rattle.rules.specs.declared.Unknown.{Unknown}
+use Rattle.rules.specs.declared.Unknown as of-rules
 use Rattle.std.specs.Prelude.{ℕ, zero, suc, ◌+◌, ◌-◌, ◌≡◌, ◌⊎◌, List, [], ◌∷◌, length, Ok, Err}
 use Rattle.tables.specs.declared.Effect.{Effect}
 use Rattle.tables.specs.Set.{size_of, move_of}
@@ -96,8 +96,8 @@ pub data Step (q : PoolProgram) : List Frame → List Frame → Type 0 where
 pub data Stuck (q : PoolProgram) (fr : Frame) : Type 0 where
   unassigned : (byte : ℕ) → decoded_at q fr ≡ Unknown byte → Stuck q fr
   cut : (opcode : ℕ) → decoded_at q fr ≡ Truncated opcode → Stuck q fr
-  no_builtin : (opcode size id : ℕ) → decoded_at q fr ≡ Instruction opcode size → known_of move_of q.program opcode (operands_in q fr size) ≡ Err (Unknown.Builtin id) → Stuck q fr
-  no_callee : (opcode size id : ℕ) → decoded_at q fr ≡ Instruction opcode size → known_of move_of q.program opcode (operands_in q fr size) ≡ Err (Unknown.Callee id) → Stuck q fr
+  no_builtin : (opcode size id : ℕ) → decoded_at q fr ≡ Instruction opcode size → known_of move_of q.program opcode (operands_in q fr size) ≡ Err (of-rules.Unknown.Builtin id) → Stuck q fr
+  no_callee : (opcode size id : ℕ) → decoded_at q fr ≡ Instruction opcode size → known_of move_of q.program opcode (operands_in q fr size) ≡ Err (of-rules.Unknown.Callee id) → Stuck q fr
   no_target : (x : Acts q fr) (word : ℕ) (spot : Spot) → (flow_at q fr x ≡ Jump word) ⊎ (flow_at q fr x ≡ Branch word)
       → target_of (marks_of size_of (body_in q fr)) (length (body_in q fr)) (moved (fr.offset + x.size) word) ≡ Err spot → Stuck q fr
 

@@ -5,3 +5,4 @@ pub mod Running
 pub mod Alike
 pub mod Calling
 pub mod Accepting
+pub mod Lengths
