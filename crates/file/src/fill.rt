@@ -8,8 +8,13 @@ use crate::measure::Numbers;
 use crate::{Columns, Layout, Table};
 
 fn into_rows(ids: &mut [u16], counts: &mut [u16], flags: &mut [u16], numbers: &[u16], count: usize)
-    requires { (count ≤ length ids.old) × ((count ≤ length counts.old) × ((count ≤ length flags.old) × (count * 3 ≤ length numbers.now))) }
-    ensures { (ids.new ≡ over (column_of 3 0 count numbers.now) ids.old) × ((counts.new ≡ over (column_of 3 1 count numbers.now) counts.old) × (flags.new ≡ over (column_of 3 2 count numbers.now) flags.old)) }
+    requires ids { count ≤ length ids.old }
+    requires counts { count ≤ length counts.old }
+    requires flags { count ≤ length flags.old }
+    requires numbers { count * 3 ≤ length numbers.now }
+    ensures ids { ids.new ≡ over (column_of 3 0 count numbers.now) ids.old }
+    ensures counts { counts.new ≡ over (column_of 3 1 count numbers.now) counts.old }
+    ensures flags { flags.new ≡ over (column_of 3 2 count numbers.now) flags.old }
 {
     for i in 0..count {
         ids[i] = numbers[i * 3];
@@ -27,8 +32,17 @@ fn into_functions(
     numbers: &[u16],
     count: usize,
 )
-    requires { (count ≤ length ids.old) × ((count ≤ length parameters.old) × ((count ≤ length maxima.old) × ((count ≤ length offsets.old) × ((count ≤ length lengths.old) × (count * 5 ≤ length numbers.now))))) }
-    ensures { (ids.new ≡ over (column_of 5 0 count numbers.now) ids.old) × ((parameters.new ≡ over (column_of 5 1 count numbers.now) parameters.old) × ((maxima.new ≡ over (column_of 5 2 count numbers.now) maxima.old) × ((offsets.new ≡ over (column_of 5 3 count numbers.now) offsets.old) × (lengths.new ≡ over (column_of 5 4 count numbers.now) lengths.old)))) }
+    requires ids { count ≤ length ids.old }
+    requires parameters { count ≤ length parameters.old }
+    requires maxima { count ≤ length maxima.old }
+    requires offsets { count ≤ length offsets.old }
+    requires lengths { count ≤ length lengths.old }
+    requires numbers { count * 5 ≤ length numbers.now }
+    ensures ids { ids.new ≡ over (column_of 5 0 count numbers.now) ids.old }
+    ensures parameters { parameters.new ≡ over (column_of 5 1 count numbers.now) parameters.old }
+    ensures maxima { maxima.new ≡ over (column_of 5 2 count numbers.now) maxima.old }
+    ensures offsets { offsets.new ≡ over (column_of 5 3 count numbers.now) offsets.old }
+    ensures lengths { lengths.new ≡ over (column_of 5 4 count numbers.now) lengths.old }
 {
     for i in 0..count {
         ids[i] = numbers[i * 5];
@@ -40,8 +54,11 @@ fn into_functions(
 }
 
 fn into_descriptors(types: &mut [u16], functions: &mut [u16], numbers: &[u16], count: usize)
-    requires { (count ≤ length types.old) × ((count ≤ length functions.old) × (count * 2 ≤ length numbers.now)) }
-    ensures { (types.new ≡ over (column_of 2 0 count numbers.now) types.old) × (functions.new ≡ over (column_of 2 1 count numbers.now) functions.old) }
+    requires types { count ≤ length types.old }
+    requires functions { count ≤ length functions.old }
+    requires numbers { count * 2 ≤ length numbers.now }
+    ensures types { types.new ≡ over (column_of 2 0 count numbers.now) types.old }
+    ensures functions { functions.new ≡ over (column_of 2 1 count numbers.now) functions.old }
 {
     for i in 0..count {
         types[i] = numbers[i * 2];
@@ -50,14 +67,16 @@ fn into_descriptors(types: &mut [u16], functions: &mut [u16], numbers: &[u16], c
 }
 
 fn into_entries(entries: &mut [u16], numbers: &[u16], count: usize)
-    requires { (count ≤ length entries.old) × (count ≤ length numbers.now) }
+    requires entries { count ≤ length entries.old }
+    requires numbers { count ≤ length numbers.now }
     ensures { entries.new ≡ over (column_of 1 0 count numbers.now) entries.old }
 {
     entries[..count].copy_from_slice(&numbers[..count]);
 }
 
 fn into_code(code: &mut [u8], file: &[u8], table: &Table)
-    requires { (table.now.count ≤ length code.old) × (table.now.start + table.now.count ≤ length file.now) }
+    requires code { table.now.count ≤ length code.old }
+    requires file { table.now.start + table.now.count ≤ length file.now }
     ensures { code.new ≡ over (take table.now.count (drop table.now.start file.now)) code.old }
 {
     let count = usize::from(table.count);

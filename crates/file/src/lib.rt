@@ -84,7 +84,7 @@ pub struct Sizes {
 }
 
 impl Columns<'_> {
-    pub fn room(&self) -> Room
+    fn room(&self) -> Room
         ensures { result ≡ room_of (columns_in self.now) }
     {
         Room {

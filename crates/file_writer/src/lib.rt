@@ -38,7 +38,7 @@ pub enum Unwritten {
 }
 
 impl Tables<'_> {
-    pub fn room(&self) -> Room
+    fn room(&self) -> Room
         ensures { result ≡ room_of (columns_of self.now) }
     {
         Room {

@@ -10,7 +10,7 @@ use file::Room;
 
 // A column of a table.
 #[derive(Clone, Copy)]
-pub enum Column<'a> {
+enum Column<'a> {
     Narrow(&'a [u16]),
     Wide(&'a [usize]),
 }

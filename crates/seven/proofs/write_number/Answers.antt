@@ -3,7 +3,6 @@
 use native.Mathlib.Omega.{arith}
 use mathlib.Core.List.{[], ◌∷◌}
 use native.Mathlib.Numerals.{add-one, add-two}
-use lib.ListN.{length-set}
 use Prim.Native.Nat.{◌+◌, ◌/◌, ◌%◌}
 use Rattle.seven.proofs.Forms.{some_byte, two_bytes, three_bytes, form_one, form_two, form_three}
 use Rattle.seven.proofs.Writes.{stored, no_room}
@@ -19,9 +18,6 @@ returns-then-n-lt128 c = let a = c.args in
 pub returns-then-out-at-le1 : goal.returns-then-out-at-le1
 returns-then-out-at-le1 c = no_room c.args.out.now c.args.at c.args.n (omega (arith, two_bytes c.args.n c.if-n-lt128.false))
 
-pub bounds-out-at-then-n-lt16384-2 : goal.bounds-out-at-then-n-lt16384-2
-bounds-out-at-then-n-lt16384-2 c = simp length-set (omega arith)
-
 pub returns-then-n-lt16384 : goal.returns-then-n-lt16384
 returns-then-n-lt16384 c = let a = c.args in
     rw add-one
@@ -29,12 +25,6 @@ returns-then-n-lt16384 c = let a = c.args in
 
 pub returns-then-out-at-le2 : goal.returns-then-out-at-le2
 returns-then-out-at-le2 c = no_room c.args.out.now c.args.at c.args.n (omega (arith, three_bytes c.args.n c.if-n-lt16384.false))
-
-pub bounds-out-at-3 : goal.bounds-out-at-3
-bounds-out-at-3 c = simp length-set (omega arith)
-
-pub bounds-out-at-4 : goal.bounds-out-at-4
-bounds-out-at-4 c = simp length-set (omega arith)
 
 pub returns : goal.returns
 returns c = let a = c.args in

@@ -6,4 +6,4 @@ use Rattle.file.proofs.fill.into_entries.Goals as goal
 
 pub returns : goal.returns
 returns c = let a = c.args in
-    copied _ _ a.entries.now a.count (c.copy_from_slice.ensures.after ∙ sym (one_column a.count a.numbers.now c.requires.1)) (column_length 1 0 a.count a.numbers.now)
+    copied _ _ a.entries.now a.count (c.copy_from_slice.ensures.after ∙ sym (one_column a.count a.numbers.now c.requires.numbers)) (column_length 1 0 a.count a.numbers.now)
