@@ -14,7 +14,7 @@ use effects::Sources;
 use rules::Violation;
 
 // Both phases, over scratch of the body's size.
-#[tactic(auto, unfolding(crate::specs::Stack::body_answer))]
+#[tactic(auto, using(cells::specs::Zeros::length_zeros, crate::proofs::Running::body_walks, crate::proofs::Running::marks_fitting, crate::proofs::Running::begins_walk), unfolding(crate::specs::Stack::body_answer))]
 fn run(
     marks: &mut [u8],
     depths: &mut [u32],
