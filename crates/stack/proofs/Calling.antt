@@ -5,11 +5,10 @@ use Rattle.stack.specs.declared.Fault.{Fault}
 use Rattle.rules.specs.Walk.{Walked}
 use Rattle.std.specs.Prelude.{Ok, Err}
 use Prim.Native.Nat.{ℕ, zero, suc, ◌≤◌}
-use native.Mathlib.Omega.{arith}
-use mathlib.Core.Path.{◌≡◌, refl, ◌∙◌, ap, ap₂, sym}
+use mathlib.Core.Path.{◌≡◌, ◌∙◌, ap, ap₂, sym}
 use mathlib.Core.List.{List}
 use lib.ListN.{length, get_or}
-use Rattle.cells.specs.Zeros.{zeros, length_zeros, ZeroAfter}
+use Rattle.cells.specs.Zeros.{ZeroAfter}
 use Rattle.tables.specs.declared.Move.{Move}
 use Rattle.tables.specs.Set.{size_of, move_of}
 use Rattle.tables.specs.Laws.{method_only}
@@ -17,16 +16,14 @@ use Rattle.tables.specs.Packed.{size_in, move_in, size_table, word_table}
 use Rattle.tables.specs.Stored.{size_stored, move_stored, GoesOn, goes_on_stored}
 use Rattle.program.specs.declared.Room.{Room}
 use Rattle.program.specs.Program.{Program, body_of}
-use Rattle.program.specs.declared.Refusal.{Refusal}
-use Rattle.program.specs.Refusals.{stack_input, room_of, Input}
+use Rattle.program.specs.Refusals.{stack_input}
 use Rattle.program.specs.Taken.{StackTaken}
 use Rattle.program.proofs.Taken.{stack_taken}
 use Rattle.rules.specs.Look.{Effects}
 use Rattle.effects.specs.Effects.{directory_of, known_by, known_of, given_back}
 use Rattle.effects.proofs.Laws.{known_is}
 use Rattle.stack.proofs.Alike.{body_byte, answer_alike}
-use Rattle.stack.specs.Columns.{Cleared, Roomy}
-use Rattle.stack.specs.Stack.{on_input, on_walked, functions_from, functions_answer, stack_answer, scratch_after, body_answer, Verdict}
+use Rattle.stack.specs.Stack.{on_walked, functions_from, functions_answer, scratch_after, body_answer, Verdict}
 
 sizes_are : (sizes : List ℕ) → sizes ≡ size_table → size_in sizes ≡ size_of
 sizes_are sizes e = ap size_in e ∙ (λ i op. size_stored op i)
@@ -51,27 +48,9 @@ answer_is p room t sizes words hints given column es ew eg wide =
     ∙ answer_alike size_of (known_by move_of hints p.list (directory_of p.functions.ids p.functions.parameters all)) (known_of move_of p) p
     (λ row offset h operands. let b = body_byte p row offset h in known_is p room t column wide hints move_of method_only _ b.0 _ b.1 operands)
 
--- the scratch of an input that is taken, cleared
-pub taken_room : (p : Program) (m d q e : ℕ) (marks depths queue : List ℕ) → StackTaken p (room_of m d q e) → marks ≡ zeros m → depths ≡ zeros d → length queue ≡ q
-    → Cleared marks depths × Roomy (length p.code) marks depths queue
-taken_room p m d q e marks depths queue t em ed eq =
-    let lm = length_zeros marks m em in
-    let ld = length_zeros depths d ed in (
-      record { marks_zero = em ∙ ap zeros (sym lm); depths_zero = ed ∙ ap zeros (sym ld) },
-      record { marks_room = omega (arith, t.marks_room); depths_room = omega (arith, t.depths_room); queue_room = omega (arith, t.queue_room); small = omega (arith, t.code_length) },
-    )
+pub call_taken : (p : Program) (room : Room) → Ok tt ≡ stack_input p room → StackTaken p room
+call_taken p room e = stack_taken p room (sym e)
 
-module _ (p : Program) (room : Room) where
-  pub call_taken : Ok tt ≡ stack_input p room → StackTaken p room
-  call_taken e = stack_taken p room (sym e)
-
-  pub call_refused : (refusal : Refusal) → Err refusal ≡ stack_input p room → Err (Fault.Refused refusal) ≡ stack_answer p room
-  unfolding stack_answer
-  call_refused refusal e = ap (λ (i : Input). on_input i (functions_answer size_of (known_of move_of p) p)) e
-
-  pub call_answers : Ok tt ≡ stack_input p room → (v : Verdict) → v ≡ functions_answer size_of (known_of move_of p) p → v ≡ stack_answer p room
-  unfolding stack_answer
-  call_answers e v a = a ∙ ap (λ (i : Input). on_input i (functions_answer size_of (known_of move_of p) p)) e
 
 -- the bodies' answer is no refusal
 abbrev Judged : Verdict → Type 0
@@ -99,7 +78,3 @@ zero_by (Err (Fault.Violated function v)) first last j z = z
 
 pub scratch_zero : (p : Program) (v : Verdict) (first last : List ℕ) → v ≡ functions_answer size_of (known_of move_of p) p → ZeroAfter first last → last ≡ scratch_after v first
 scratch_zero p v first last e z = zero_by v first last (rw e (judged size_of (known_of move_of p) p)) z
-
-pub scratch_kept : (refusal : Refusal) (column : List ℕ) → column ≡ scratch_after (Err (Fault.Refused refusal)) column
-unfolding scratch_after
-scratch_kept refusal column = refl

@@ -14,13 +14,13 @@ use lib.Seq.{take-suc-set, get_or-set_same}
 use borrow.Author.Tests.{eqb-true, eqb-false}
 use Rattle.rules.specs.declared.Violation.{Violation}
 use Rattle.rules.specs.Look.{Effects, look_of, Bounded, Look}
-use Rattle.rules.specs.Walk.{Outcome, stop, go, put}
+use Rattle.rules.specs.Walk.{stop, go, put}
 use Rattle.rules.proofs.Bound.{look_bounded}
 use Rattle.rules.proofs.Counting.{count_room, count_set}
 use Rattle.rules.proofs.Queue.{put_new, put_same, put_clash}
 use Rattle.stack.specs.declared.walk.Meeting.{Meeting}
 use Rattle.stack.specs.declared.walk.Turn.{Turn}
-use Rattle.stack.specs.Columns.{meet_of, Ready, Puts, Turns, Fitting, Put}
+use Rattle.stack.specs.Columns.{meet_of, Ready, Puts, Turns, Fitting}
 
 -- what each meeting says of the depth on record, and of the definition
 abbrev Says : List ℕ → List ℕ → ℕ → ℕ → Result Meeting Violation → Type 0
@@ -65,15 +65,6 @@ module _ (d q : List ℕ) (tail to out : ℕ) (ready : Ready d q tail) (within :
   put_on small e =
       let r = ready_on e in
       (refl, (put_new d (take tail q) to out e, (refl, (get_or-set_same d to (out + 1) 0 within, (small, record { small = r.small; room = r.room; counted = omega (arith, r) })))))
-
--- a put as a turn
-pub turn_puts : (alone : Bool) (tail : ℕ) (first : List ℕ) (end : ℕ) (d q : List ℕ) (o : Outcome) → Puts tail (Ok end) d q o → Turns alone tail first (Ok (Turn.Go end)) d q o
-turn_puts alone tail first end d q o e = e
-
--- two puts, one after the other
-pub then_puts : (tail end : ℕ) (done : Put) (d q : List ℕ) (o : Outcome) → tail ≤ end → Puts end done d q o → Puts tail done d q o
-then_puts tail end (Err v) d q o l e = e
-then_puts tail end (Ok k) d q o l e = (e.0, (e.1.0, omega (arith, e.1.1)))
 
 -- a wider bound on depths
 bounded_le : (n x y : ℕ) (seen : Look) → x ≤ y → Bounded n x seen → Bounded n y seen

@@ -14,7 +14,7 @@ use effects::Sources;
 use rules::Violation;
 
 // Both phases, over scratch of the body's size.
-#[tactic(auto, unfolding(crate::specs::Stack::body_answer))]
+#[tactic(auto, using(cells::specs::Zeros::length_zeros, crate::proofs::Running::body_walks, crate::proofs::Running::marks_fitting, crate::proofs::Running::begins_walk), unfolding(crate::specs::Stack::body_answer))]
 fn run(
     marks: &mut [u8],
     depths: &mut [u32],
@@ -34,6 +34,7 @@ fn run(
 }
 
 // One body, over the front of the scratch. What it used is cleared; the queue holds anything.
+#[tactic(auto, using(cells::specs::Zeros::take_zeros, cells::specs::Zeros::patched))]
 fn one(
     marks: &mut [u8],
     depths: &mut [u32],
@@ -64,6 +65,7 @@ fn one(
 }
 
 // Functions in directory order.
+#[tactic(auto, using(crate::proofs::Running::going_cleared, crate::proofs::Running::going_room, crate::proofs::Running::roomy_part))]
 pub(crate) fn all(
     marks: &mut [u8],
     depths: &mut [u32],

@@ -11,12 +11,6 @@ use flow::Flow;
 use rules::{Onward, Unknown, Violation};
 use tables::Effect;
 
-fn larger_of(a: u64, b: u64) -> u64
-    ensures { result ≡ larger a b }
-{
-    if a < b { b } else { a }
-}
-
 fn unknown_at(offset: usize, unknown: Unknown) -> Violation
     ensures { result ≡ unknown_at offset unknown }
 {
@@ -62,7 +56,7 @@ fn moved_by(
         });
     }
     let out = depth - takes + u64::from(effect.leaves);
-    let peak = larger_of(depth, out);
+    let peak = depth.max(out);
     if u64::from(maximum) < peak {
         return Err(Violation::ExceedsDeclaredMax {
             offset,
@@ -132,6 +126,7 @@ fn flows(
 }
 
 // The rules at an offset of the body at a depth. Most instructions have the table's effect and go on to the next: they are told apart first.
+#[tactic(auto, using(rules::proofs::Cases::look_end, crate::proofs::Looking::plain_look, crate::proofs::Looking::look_stops))]
 pub(crate) fn look(
     sources: &Sources<'_>,
     marks: &[u8],

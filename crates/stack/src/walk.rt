@@ -167,6 +167,7 @@ fn depth_at(depths: &[u32], offset: usize) -> u64
 }
 
 // The walk. Offset 0 has its depth on record; each turn is at another offset, so that a turn for each suffices.
+#[tactic(auto, using(crate::proofs::Walking::walking_stop))]
 pub(crate) fn walk(
     depths: &mut [u32],
     queue: &mut [u16],

@@ -3,11 +3,8 @@
 use mathlib.Core.Path.{◌∙◌}
 use native.Mathlib.Omega.{arith}
 use lib.ListN.{replicate}
-use Rattle.stack.proofs.Calling.{words_go_on, answer_is}
+use Rattle.stack.proofs.Calling.{answer_is}
 use Rattle.stack.proofs.checked.Goals as goal
-
-pub all-verdict-requires-clause-goes_on : goal.all-verdict-requires-clause-goes_on
-all-verdict-requires-clause-goes_on c = words_go_on _ c.words-words.ensures
 
 pub returns-clause-value : goal.returns-clause-value
 returns-clause-value c = c.all-verdict.ensures.0 ∙ answer_is _ _ c.requires _ _ _ _ (replicate 128 0) c.sizes-sizes.ensures c.words-words.ensures c.given_back.ensures (omega arith)

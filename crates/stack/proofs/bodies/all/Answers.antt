@@ -2,16 +2,11 @@
 -- Assumes nothing.
 use mathlib.Core.Path.{refl, ◌∙◌, sym, ap}
 use Rattle.cells.specs.Zeros.{zeros, length_zeros}
-use Rattle.stack.proofs.Running.{going_first, going_cleared, going_room, going_end, going_stop, going_more, roomy_part, row_is}
+use Rattle.stack.proofs.Running.{going_first, going_end, going_stop, going_more, row_is}
 use Rattle.stack.proofs.bodies.all.Goals as goal
 
 pub loop-row-init : goal.loop-row-init
 loop-row-init c = going_first _ _ _ _ _ _ c.requires.cleared.0
-
-pub one-requires-clause-cleared : goal.one-requires-clause-cleared
-one-requires-clause-cleared c = let l = c.loop-row in
-    let g = l.invariant in
-    (going_cleared _ _ _ _ _ _ l.marks l.depths l.queue l.row g, roomy_part l.marks l.depths l.queue c.args.sources.now.program.code.now c.at.result c.at-in-loop-row.result _ c.part-body.ensures (going_room _ _ _ _ _ _ l.marks l.depths l.queue l.row g _ c.requires.cleared.1))
 
 pub returns-in-Err : goal.returns-in-Err
 returns-in-Err c = let l = c.loop-row in

@@ -1,13 +1,12 @@
 -- `stack::walk::walk` meets its contract. The invariant is `Walking`: the definition, run from the entry in hand and what waits, gives what it gives from the start; where no turn is left both accept.
 -- Assumes nothing.
 use Rattle.std.specs.Prelude.{Ok}
-use Rattle.std.proofs.lemmas.Result.{err_from_is_err_and}
 use borrow.Author.Tests.{eqb-true}
 use Prim.Native.Nat.{◌+◌, ◌-◌, ◌<◌}
 use mathlib.Core.Path.{◌≡◌, refl, ◌∙◌, ap}
 use native.Mathlib.Omega.{arith}
 use lib.ListN.{length}
-use Rattle.stack.proofs.Walking.{walking_first, walking_over, walking_stop, walking_empty, walking_go, walking_on}
+use Rattle.stack.proofs.Walking.{walking_first, walking_over, walking_empty, walking_go, walking_on}
 use Rattle.stack.proofs.walk.walk.Goals.{in-On, in-Go+else-tail-head}
 use Rattle.stack.proofs.walk.walk.Goals as goal
 
@@ -15,12 +14,6 @@ pub loop-i-init : goal.loop-i-init
 loop-i-init c = let p = c.requires.depths_value in
     let z : length c.args.body.now + 1 - 0 ≡ length c.args.body.now + 1 = omega arith in
     rw z (walking_first _ _ _ _ p.0 (omega arith) p.1.0 (omega (arith, p)))
-
-pub returns-in_err-turn : goal.returns-in_err-turn
-returns-in_err-turn c = let l = c.loop-i in
-    let p = err_from_is_err_and c.from_residual.result c.from_residual.ensures.1 in
-    let g = rw c.in_err-turn.was at c.turn_at.ensures in
-    rw (p.1, p.2) (walking_stop _ _ _ l.depths l.queue l.head l.tail l.offset l.depth _ l.invariant (omega (arith, c.loop-i-test.true)) l.depths l.queue _ g)
 
 pub returns-then-tail-head : goal.returns-then-tail-head
 returns-then-tail-head c = let l = c.loop-i in
