@@ -12,7 +12,9 @@ use Rattle.file.specs.Columns.{over}
 use Rattle.seven.specs.Write.{laid}
 use Rattle.file.proofs.LaidLaws.{laid_start, laid_step, laid_done}
 use Rattle.answers.specs.declared.Fields.{Fields}
-use Rattle.desk.specs.declared.Answer.TheVariants.{Refused, Checked}
+use Rattle.std.specs.Prelude.{Ok, Err}
+use Rattle.file.specs.declared.Refused.{Refused}
+use Rattle.desk.specs.declared.Checked.{Checked}
 use Rattle.desk.specs.Desk.{desk_answer}
 use Rattle.coppernudge.specs.Entry.{twelve_of, bytes_of, written, entry_of}
 
@@ -21,14 +23,14 @@ unfolding entry_of
 short file buffer h = rw (lt-ltb _ _ h)
 
 module _ (file buffer : List ℕ) (room : 48 ≤ length buffer) where
-  pub refused : {number place : ℕ} → desk_answer file ≡ Refused number place → (number, buffer) ≡ entry_of file buffer
+  pub refused : {r : Refused} → desk_answer file ≡ Err r → (r.number, buffer) ≡ entry_of file buffer
   unfolding entry_of written
   refused e = rw (le-ltb _ _ room, e)
 
-  pub checked : (s p : Fields) (words after : List ℕ) → desk_answer file ≡ Checked s p → words ≡ twelve_of s p → after ≡ over (bytes_of words) buffer →
+  pub checked : (c : Checked) (words after : List ℕ) → desk_answer file ≡ Ok c → words ≡ twelve_of c.stack c.pool → after ≡ over (bytes_of words) buffer →
       (0, after) ≡ entry_of file buffer
   unfolding entry_of written
-  checked s p words after e w a = rw (le-ltb _ _ room, e, a, w)
+  checked c words after e w a = rw (le-ltb _ _ room, e, a, w)
 
 -- the loop: so many words are in their places
 pub record Putting (out₀ words out : List ℕ) (at i : ℕ) : Type 0 where

@@ -1,11 +1,6 @@
 -- `coppernudge::put_words` meets its contract: a turn lays one word over the next four bytes. Assumes nothing.
-use Prim.Native.Nat.{◌-◌}
-use lib.ListN.{length}
 use Rattle.coppernudge.proofs.EntryLaws.{Putting}
 use Rattle.coppernudge.proofs.put_words.Given as goal
 
-abbrev pub invariant-loop-i : goal.invariant-loop-i
-invariant-loop-i l = Putting l.initial.out l.words l.out l.at l.i
-
-abbrev pub decreases-loop-i : goal.decreases-loop-i
-decreases-loop-i l = length l.words - l.i
+abbrev pub invariant-loop-word : goal.invariant-loop-word
+invariant-loop-word l = Putting l.initial.out l.words l.out l.at l.word-index
