@@ -13,14 +13,14 @@ fn not_zero<T: Cell + PartialEq>(column: &[T]) -> usize {
 }
 
 // Functions 1, 2, .. without list rows and descriptors, with scratch of junk and some to spare.
-fn run(
+fn run<'a>(
     rt: &impl Print,
     name: &str,
-    ids: &[u16],
-    offsets: &[usize],
-    lengths: &[usize],
-    code: &[u8],
-    entries: &[u16],
+    ids: &'a [u16],
+    offsets: &'a [usize],
+    lengths: &'a [usize],
+    code: &'a [u8],
+    entries: &'a [u16],
     pool: u16,
 ) -> io::Result<()> {
     let functions = Functions {

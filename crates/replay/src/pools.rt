@@ -32,7 +32,7 @@ fn asked(program: &PoolProgram<'_>) -> Fields {
 }
 
 // One entry: how long it is, and whether it is the same.
-fn entry(list: &CodeList<'_>, data: &[u8], at: usize) -> (usize, bool) {
+fn entry<'a>(list: &CodeList<'a>, data: &'a [u8], at: usize) -> (usize, bool) {
     let n = cells::at(data, at) as usize;
     let rows = at.wrapping_add(1);
     let after = rows.wrapping_add(n * 10);
@@ -67,6 +67,6 @@ fn entry(list: &CodeList<'_>, data: &[u8], at: usize) -> (usize, bool) {
     (n * 10 + size + described * 4 + entered * 2 + 32, same)
 }
 
-pub fn replay(list: &CodeList<'_>, data: &[u8]) -> Tally {
+pub fn replay<'a>(list: &CodeList<'a>, data: &'a [u8]) -> Tally {
     tally::each(data, |at| entry(list, data, at))
 }

@@ -76,7 +76,7 @@ fn asked(program: &Program<'_>) -> Fields {
 }
 
 // One entry: how long it is, and whether it is the same.
-fn entry(list: &CodeList<'_>, data: &[u8], at: usize) -> (usize, bool) {
+fn entry<'a>(list: &CodeList<'a>, data: &'a [u8], at: usize) -> (usize, bool) {
     let n = cells::at(data, at) as usize;
     let rows = at.wrapping_add(1);
     let after = rows.wrapping_add(n * 10);
@@ -92,6 +92,6 @@ fn entry(list: &CodeList<'_>, data: &[u8], at: usize) -> (usize, bool) {
     (n * 10 + size + 27, asked(&program) == recorded)
 }
 
-pub fn replay(list: &CodeList<'_>, data: &[u8]) -> Tally {
+pub fn replay<'a>(list: &CodeList<'a>, data: &'a [u8]) -> Tally {
     tally::each(data, |at| entry(list, data, at))
 }
