@@ -51,7 +51,6 @@ answer_is p room t sizes words hints given column es ew eg wide =
 pub call_taken : (p : Program) (room : Room) → Ok tt ≡ stack_input p room → StackTaken p room
 call_taken p room e = stack_taken p room (sym e)
 
-
 -- the bodies' answer is no refusal
 abbrev Judged : Verdict → Type 0
 Judged (Ok _) = Unit {0}
