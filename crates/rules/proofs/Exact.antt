@@ -3,7 +3,6 @@
 -- and its successors have theirs; when none waits, the walk's depths are the assignment.
 -- Assumes nothing.
 use Rattle.std.specs.Prelude.{Ok, Err}
-use Rattle.rules.specs.declared.Onward.TheVariants.{Leaves, Goes, Forks}
 use mathlib.Core.Path.{◌≡◌, refl, sym, ap, ◌∙◌}
 use mathlib.Core.List.Memᴰ
 use mathlib.Core.List.{List, [], ◌∷◌, ◌++◌}
@@ -13,6 +12,7 @@ use native.Mathlib.Decide.{ℕ_discrete}
 use native.Mathlib.Omega.{arith}
 use lib.ListN.{length, get_or, set, length-set}
 use lib.Seq.{get_or-set_same}
+use Rattle.rules.specs.declared.Onward.TheVariants.{Leaves, Goes, Forks}
 use Rattle.rules.specs.Look.{Bounded, Look}
 use Rattle.rules.specs.Walk.{Outcome, stop, go, ended, put, follow, walk_from, walk_of, begun, count}
 use Rattle.rules.specs.Assigned.{Holds, Names, Reached, start, step, Satisfies}

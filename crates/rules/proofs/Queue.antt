@@ -2,8 +2,6 @@
 -- walk's own queue is `offset ∷ drop head (take tail queue)`. A law for each way that a turn of a loop over such a column can go.
 -- Assumes nothing.
 use Rattle.std.specs.Prelude.{Ok, Err}
-use Rattle.rules.specs.declared.Onward.TheVariants.{Leaves, Goes, Forks}
-use Rattle.rules.specs.Look.{Look}
 use mathlib.Core.Path.{◌≡◌, refl, sym, ap, ◌∙◌}
 use mathlib.Core.Bool.{Bool, true, false, cond}
 use mathlib.Core.List.{List, [], ◌∷◌, ◌++◌}
@@ -14,8 +12,10 @@ use lib.ListN.{length, get_or, set, take, drop, length-append, drop_of_length-le
 use lib.Seq.{drop-cons, drop-append-le, length-take-le, get_or-take}
 use lib.Dec.{eqb}
 use borrow.Author.Tests.{eq-eqb, ne_eqb}
+use Rattle.rules.specs.declared.Onward.TheVariants.{Leaves, Goes, Forks}
 use Rattle.rules.specs.declared.Violation.{Violation}
 use Rattle.rules.specs.Walk.{Outcome, stop, go, then, ended, put, follow, walk_from, begun, walk_of}
+use Rattle.rules.specs.Look.{Look}
 
 -- The three ways of a successor.
 module _ (depths queue : List ℕ) (to out : ℕ) where

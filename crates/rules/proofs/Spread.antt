@@ -2,7 +2,6 @@
 -- and each successor has its depth afterwards. By the three ways of one successor.
 -- Assumes nothing.
 use Rattle.std.specs.Prelude.{Ok, Err}
-use Rattle.rules.specs.declared.Onward.TheVariants.{Leaves, Goes, Forks}
 use mathlib.Core.Path.{◌≡◌, refl, sym, ◌∙◌}
 use mathlib.Core.List.Memᴰ
 use mathlib.Core.List.{List, [], ◌∷◌, ◌++◌, Memᴰ}
@@ -12,6 +11,7 @@ use native.Mathlib.Decide.{ℕ_discrete}
 use native.Mathlib.Omega.{arith}
 use lib.ListN.{length, get_or, set, length-append, length-set}
 use lib.Seq.{get_or-set_same, get_or-set_other}
+use Rattle.rules.specs.declared.Onward.TheVariants.{Leaves, Goes, Forks}
 use Rattle.rules.specs.declared.Violation.{Violation}
 use Rattle.rules.specs.Look.{Bounded, Look}
 use Rattle.rules.specs.Walk.{Outcome, stop, go, put, follow, count}

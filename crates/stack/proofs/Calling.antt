@@ -1,11 +1,8 @@
--- The whole call: what the code reads out of its tables and columns on an input that is taken is 01's, the cleared scratch has room, and what the
--- answer leaves of the scratch.
+-- The whole call: what the code reads out of its tables and columns on an input that is taken is 01's, and what the answer leaves of the scratch.
 -- Assumes nothing.
-use Rattle.stack.specs.declared.Fault.{Fault}
-use Rattle.rules.specs.Walk.{Walked}
 use Rattle.std.specs.Prelude.{Ok, Err}
 use Prim.Native.Nat.{ℕ, zero, suc, ◌≤◌}
-use mathlib.Core.Path.{◌≡◌, ◌∙◌, ap, ap₂, sym}
+use mathlib.Core.Path.{◌≡◌, ◌∙◌, ap, ap₂}
 use mathlib.Core.List.{List}
 use lib.ListN.{length, get_or}
 use Rattle.cells.specs.Zeros.{ZeroAfter}
@@ -16,12 +13,12 @@ use Rattle.tables.specs.Packed.{size_in, move_in, size_table, word_table}
 use Rattle.tables.specs.Stored.{size_stored, move_stored, GoesOn, goes_on_stored}
 use Rattle.program.specs.declared.Room.{Room}
 use Rattle.program.specs.Program.{Program, body_of}
-use Rattle.program.specs.Refusals.{stack_input}
 use Rattle.program.specs.Taken.{StackTaken}
-use Rattle.program.proofs.Taken.{stack_taken}
 use Rattle.rules.specs.Look.{Effects}
+use Rattle.rules.specs.Walk.{Walked}
 use Rattle.effects.specs.Effects.{directory_of, known_by, known_of, given_back}
 use Rattle.effects.proofs.Laws.{known_is}
+use Rattle.stack.specs.declared.Fault.{Fault}
 use Rattle.stack.proofs.Alike.{body_byte, answer_alike}
 use Rattle.stack.specs.Stack.{on_walked, functions_from, functions_answer, scratch_after, body_answer, Verdict}
 
@@ -47,10 +44,6 @@ answer_is p room t sizes words hints given column es ew eg wide =
     ap₂ (λ (f : ℕ → ℕ) (u : Effects). functions_answer f u p) s k
     ∙ answer_alike size_of (known_by move_of hints p.list (directory_of p.functions.ids p.functions.parameters all)) (known_of move_of p) p
     (λ row offset h operands. let b = body_byte p row offset h in known_is p room t column wide hints move_of method_only _ b.0 _ b.1 operands)
-
-pub call_taken : (p : Program) (room : Room) → Ok tt ≡ stack_input p room → StackTaken p room
-call_taken p room e = stack_taken p room (sym e)
-
 
 -- the bodies' answer is no refusal
 abbrev Judged : Verdict → Type 0

@@ -20,7 +20,7 @@ use Rattle.rules.proofs.Moving.{look_is, look_next}
 use Rattle.effects.specs.declared.Sources.{Sources}
 use Rattle.effects.specs.Stated.{known_in}
 use Rattle.effects.proofs.Laws.{known_fixed}
-use Rattle.stack.specs.Moves.{effect_at}
+use Rattle.stack.specs.Moves.{effect_at, Moved, on_moved}
 
 -- 3 and 4, or the effect with which a look goes on
 pub known_stops : (offset : ℕ) (go : Effect → Look) (k : Known) (v : Violation) → effect_at offset k ≡ Err v → on_known offset go k ≡ Err v
@@ -50,5 +50,5 @@ module _ (s : Sources) (marks body : List ℕ) (maximum offset depth size next :
     pub look_stops : (v : Violation) → effect_at offset (known_in s op operands) ≡ Err v → seen ≡ Err v
     look_stops v e = look_is _ _ body _ _ _ _ size _ _ within refl is_size is_next are _ refl ∙ known_stops offset _ _ v e
 
-    pub look_moves : (effect : Effect) → effect_at offset (known_in s op operands) ≡ Ok effect → seen ≡ moving offset op maximum depth effect (λ out. flowed out)
-    look_moves effect e = look_is _ _ body _ _ _ _ size _ _ within refl is_size is_next are _ refl ∙ known_goes offset _ _ effect e
+    pub look_moved : (effect : Effect) (moved : Moved) → effect_at offset (known_in s op operands) ≡ Ok effect → ((go : ℕ → Look) → moving offset op maximum depth effect go ≡ on_moved go moved) → seen ≡ on_moved (λ out. flowed out) moved
+    look_moved effect moved e m = look_is _ _ body _ _ _ _ size _ _ within refl is_size is_next are _ refl ∙ known_goes offset _ _ effect e ∙ m _

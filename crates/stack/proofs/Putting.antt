@@ -1,7 +1,6 @@
 -- What putting a successor does to the columns, case by case: it gets a depth and joins the queue, it has that depth already, or 8.
 -- Assumes nothing.
 use Rattle.std.specs.Prelude.{Result, Ok, Err}
-use Rattle.rules.specs.declared.Onward.TheVariants.{Leaves, Goes, Forks}
 use Prim.Native.Nat.{ℕ, ◌+◌, ◌-◌, ◌≤◌, ◌<◌}
 use native.Mathlib.Numerals.{add-one}
 use native.Mathlib.Omega.{arith}
@@ -12,6 +11,7 @@ use lib.Dec.{eqb}
 use lib.ListN.{length, get_or, set, take, length-set}
 use lib.Seq.{take-suc-set, get_or-set_same}
 use borrow.Author.Tests.{eqb-true, eqb-false}
+use Rattle.rules.specs.declared.Onward.TheVariants.{Leaves, Goes, Forks}
 use Rattle.rules.specs.declared.Violation.{Violation}
 use Rattle.rules.specs.Look.{Effects, look_of, Bounded, Look}
 use Rattle.rules.specs.Walk.{stop, go, put}

@@ -1,6 +1,5 @@
 -- A body's answer by how its decoding ends, the columns that its walk begins with, and the directory's rows one after the other.
 -- Assumes nothing.
-use Rattle.stack.specs.declared.Fault.{Fault}
 use Rattle.std.specs.Prelude.{Ok, Err}
 use Prim.Native.Nat.{ℕ, suc, ◌+◌, ◌-◌, ◌≤◌, ◌<◌}
 use native.Mathlib.Omega.{arith}
@@ -11,11 +10,12 @@ use lib.ListN.{length, get_or, set, take, drop, length-take, length-drop}
 use Rattle.cells.specs.Zeros.{zeros, zeros_are, length_zeros, any_zero}
 use Rattle.flow.specs.Walk.{walk_by, end_of, mark_all, marks_of, Decoded}
 use Rattle.flow.proofs.Next.{marks_fit, marks_are}
+use Rattle.program.specs.Program.{Program, body_of, body_is}
 use Rattle.rules.specs.declared.Violation.{Violation}
 use Rattle.rules.specs.Look.{Effects, look_of}
 use Rattle.rules.specs.Walk.{begun, walk_of, Walked}
 use Rattle.rules.proofs.Counting.{begun_is}
-use Rattle.program.specs.Program.{Program, body_of, body_is}
+use Rattle.stack.specs.declared.Fault.{Fault}
 use Rattle.stack.specs.Columns.{Fitting, Cleared, Roomy}
 use Rattle.stack.specs.Stack.{on_decoded, body_answer, on_walked, functions_from, functions_answer}
 

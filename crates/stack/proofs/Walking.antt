@@ -2,7 +2,6 @@
 -- from the start. A law for each way that a turn can go.
 -- Assumes nothing.
 use Rattle.std.specs.Prelude.{Ok, Err}
-use Rattle.rules.specs.Look.{Look}
 use Prim.Native.Nat.{ℕ, ◌+◌, ◌-◌, ◌≤◌, ◌<◌}
 use native.Mathlib.Omega.{arith}
 use mathlib.Core.Path.{◌≡◌, refl, ◌∙◌, ap, sym}
@@ -13,6 +12,7 @@ use Rattle.rules.specs.declared.Violation.{Violation}
 use Rattle.rules.specs.Walk.{stop, go, follow, walk_from, begun, walk_of}
 use Rattle.rules.proofs.Counting.{count_le, length_begun, count_begun, begun_first}
 use Rattle.rules.proofs.Queue.{loop_stop, loop_go, loop_empty, loop_on, walk_over, walk_begun}
+use Rattle.rules.specs.Look.{Look}
 use Rattle.stack.specs.declared.walk.Turn.{Turn}
 use Rattle.stack.specs.Columns.{Ready, Turns}
 

@@ -1,6 +1,5 @@
 -- The stack check: functions in directory order, the whole body decoded first, then the walk; the first violation ends the call.
 -- Assumes nothing.
-use Rattle.stack.specs.declared.Fault.{Fault}
 use Rattle.std.specs.Prelude.{ℕ, zero, suc, ◌+◌, List, length, get_or, Result, Ok, Err}
 use Rattle.cells.specs.Zeros.{zeros}
 use Rattle.tables.specs.Set.{size_of, move_of}
@@ -14,6 +13,7 @@ use Rattle.rules.specs.Walk.{walk_of, Walked}
 use Rattle.effects.specs.Effects.{known_of}
 use Rattle.answers.specs.declared.Fields.{Fields}
 use Rattle.answers.specs.Fields.{no_fields, refusal_fields, violation_fields}
+use Rattle.stack.specs.declared.Fault.{Fault}
 
 -- the call's answer: accepted, the input refused, or the first violation with the function that it stands in
 abbrev pub Verdict : Type 0

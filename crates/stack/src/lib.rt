@@ -71,7 +71,7 @@ fn checked(
 }
 
 // The stack call. 30 to 34 leave the scratch untouched; every other answer leaves all of it zero, spare cells included.
-#[tactic(auto, using(crate::proofs::Calling::call_taken, crate::proofs::Calling::scratch_zero), unfolding(crate::specs::Stack::stack_answer, crate::specs::Stack::scratch_after))]
+#[tactic(auto, using(program::proofs::Taken::stack_taken, crate::proofs::Calling::scratch_zero), unfolding(crate::specs::Stack::stack_answer, crate::specs::Stack::scratch_after))]
 pub fn stack_check(scratch: &mut Scratch<'_>, program: &Program<'_>) -> Result<(), Fault>
     ensures value { result ≡ stack_answer (program_in program.now) (room_in scratch.old) }
     ensures marks_after { (scratch.new.marks.now ≡ scratch_after result scratch.old.marks.now) × ((scratch.new.depths.now ≡ scratch_after result scratch.old.depths.now) × ((scratch.new.queue.now ≡ scratch_after result scratch.old.queue.now) × (scratch.new.queue_depths.now ≡ scratch_after result scratch.old.queue_depths.now))) }

@@ -11,6 +11,7 @@ use flow::Flow;
 use rules::{Onward, Unknown, Violation};
 use tables::Effect;
 
+// 3 and 4.
 fn unknown_at(offset: usize, unknown: Unknown) -> Violation
     ensures { result ≡ unknown_at offset unknown }
 {
@@ -20,7 +21,7 @@ fn unknown_at(offset: usize, unknown: Unknown) -> Violation
     }
 }
 
-// 3 and 4, or the effect of an instruction.
+// The effect of an instruction, or 3 or 4.
 fn effect_at(
     sources: &Sources<'_>,
     offset: usize,
@@ -33,7 +34,7 @@ fn effect_at(
     known.map_err(|unknown| unknown_at(offset, unknown))
 }
 
-// 5 and 6, or the depth that an effect makes of a depth.
+// What an effect makes of a depth, or 5 or 6.
 #[tactic(auto, unfolding(rules::specs::Look::moving))]
 fn moved_by(
     offset: usize,
@@ -82,7 +83,7 @@ fn exit_at(offset: usize, expected: u64, depth: u64) -> Result<Onward, Violation
     }
 }
 
-// 7, or a branch's target.
+// A branch's target, or 7.
 fn legal_target(
     marks: &[u8],
     end: usize,

@@ -127,12 +127,10 @@ fn follow_on(
             if alone {
                 return straight_on(depths, queue, tail, to, out);
             }
-            let end = put_one(depths, queue, tail, to, out)?;
-            Ok(Turn::Go(end))
+            put_one(depths, queue, tail, to, out).map(Turn::Go)
         }
         Onward::Forks { out, to, next } => {
-            let end = put_both(depths, queue, tail, to, next, out)?;
-            Ok(Turn::Go(end))
+            put_both(depths, queue, tail, to, next, out).map(Turn::Go)
         }
     }
 }
