@@ -128,26 +128,41 @@ pub walks_stopped : (unwalked : Unwalked) (row : List ℕ) (w : Walked) → Err 
 unfolding Walks RowHolds
 walks_stopped unwalked row w e = (e, tt)
 
-module _ (rule : ℕ → ℕ → Tread) (room pool n : ℕ) (lawful : Lawful rule pool n) (numbers places carried row : List ℕ) (head count offset held weight peak met : ℕ)
-    (w : Walking rule room pool n numbers places carried row head count offset held weight peak met) (t : Tread) (is : t ≡ rule offset held) where
+-- what a turn knows once it has treaded the entry in hand: row', met', weight' and peak' are what was found, this tread among it
+pub record Trod (rule : ℕ → ℕ → Tread) (room pool n : ℕ) (numbers places carried row : List ℕ) (head count offset held weight peak met : ℕ) (t : Tread) (row' : List ℕ) (met' weight' peak' : ℕ) : Type 0 where
+  pub lawful : Lawful rule pool n
+  pub walking : Walking rule room pool n numbers places carried row head count offset held weight peak met
+  pub treads : t ≡ rule offset held
+  pub lists : Listed row' met'
+  pub notes : take met' row' ≡ noted t.opens (take met row)
+  pub weighs : weight' ≡ max weight t.sum
+  pub peaks : peak' ≡ cond (ltb weight t.sum) offset peak
+
+pub tread_opens : (rule : ℕ → ℕ → Tread) (pool n : ℕ) → Lawful rule pool n → (offset held : ℕ) (t : Tread) → t ≡ rule offset held → t.opens ≤ 128
+tread_opens rule pool n lawful offset held t is = rw is (lawful.opens offset held)
+
+-- what the columns must bear
+pub tread_leads : (rule : ℕ → ℕ → Tread) (room pool n : ℕ) → Lawful rule pool n → (numbers places carried row : List ℕ) (head count offset held weight peak met : ℕ)
+    → Walking rule room pool n numbers places carried row head count offset held weight peak met → (t : Tread) → t ≡ rule offset held → pool < 65535 → Leads (length numbers) 65535 t.sum t.way
+tread_leads rule room pool n lawful numbers places carried row head count offset held weight peak met w t is h =
+    leads_more (length numbers) pool 65535 t.sum t.way (omega arith) (rw (w.long, is) (lawful.leads offset held))
+
+module _ {rule : ℕ → ℕ → Tread} {room pool n : ℕ} {numbers places carried row : List ℕ} {head count offset held weight peak met : ℕ} {t : Tread} {row' : List ℕ} {met' weight' peak' : ℕ}
+    (d : Trod rule room pool n numbers places carried row head count offset held weight peak met t row' met' weight' peak') where
+  abbrev w : Walking rule room pool n numbers places carried row head count offset held weight peak met
+  w = d.walking
+
   abbrev queue : List Entry
   queue = waiting places carried head count
 
   abbrev outcome : Outcome
   outcome = follow (length places) numbers queue t.sum t.way
 
-  pub walking_opens : t.opens ≤ 128
-  walking_opens = rw is (lawful.opens offset held)
-
   leads_on : Leads (length numbers) pool t.sum t.way
-  leads_on = rw (w.long, is) (lawful.leads offset held)
-
-  -- what the columns must bear
-  pub walking_leads : pool < 65535 → Leads (length numbers) 65535 t.sum t.way
-  walking_leads h = leads_more (length numbers) pool 65535 t.sum t.way (omega arith) leads_on
+  leads_on = rw (w.long, d.treads) (d.lawful.leads offset held)
 
   there : (o : Outcome) → outcome ≡ o → follow room numbers queue (rule offset held).sum (rule offset held).way ≡ o
-  there o e = ap₂ (λ (c : ℕ) (x : Tread). follow c numbers queue x.sum x.way) (sym w.capacity) (sym is) ∙ e
+  there o e = ap₂ (λ (c : ℕ) (x : Tread). follow c numbers queue x.sum x.way) (sym w.capacity) (sym d.treads) ∙ e
 
   step : (o : Outcome) → outcome ≡ o → (k : ℕ) × (w.left ≡ suc k)
   step o e = by w.left w.enough
@@ -166,14 +181,13 @@ module _ (rule : ℕ → ℕ → Tread) (room pool n : ℕ) (lawful : Lawful rul
       ap used_of (sym (walk_full rule room s.0 numbers offset held queue (found weight peak (take met row)) w.fresh (there full e)) ∙ ap (λ (k : ℕ). walk_from rule room k numbers (entry offset held ∷ queue) (found weight peak (take met row))) (sym s.1) ∙ w.goes_on)
 
   -- and the walk's answer
-  pub walking_stops : (row' : List ℕ) (numbers' places' carried' : List ℕ) (head' count' : ℕ) (unwalked : Unwalked) → Turns count t.sum (Err unwalked) numbers' places' carried' head' count' outcome → Walks (Err unwalked) row' (walk_of rule room pool n)
+  pub walking_stops : (numbers' places' carried' : List ℕ) (head' count' : ℕ) (unwalked : Unwalked) → Turns count t.sum (Err unwalked) numbers' places' carried' head' count' outcome → Walks (Err unwalked) row' (walk_of rule room pool n)
   unfolding Turns
-  walking_stops row' numbers' places' carried' head' count' unwalked e = walks_stopped unwalked row' (walk_of rule room pool n) (walking_stopped unwalked e)
+  walking_stops numbers' places' carried' head' count' unwalked e = walks_stopped unwalked row' (walk_of rule room pool n) (walking_stopped unwalked e)
 
-  module _ (row' : List ℕ) (met' weight' peak' : ℕ) (listed' : Listed row' met') (callees' : take met' row' ≡ noted t.opens (take met row))
-      (is-max : weight' ≡ max weight t.sum) (is-peak : peak' ≡ cond (ltb weight t.sum) offset peak) (numbers' : List ℕ) where
+  module _ (numbers' : List ℕ) where
     is-weight : weight' ≡ cond (ltb weight t.sum) t.sum weight
-    is-weight = is-max ∙ larger weight t.sum
+    is-weight = d.weighs ∙ larger weight t.sum
 
     -- the walk goes on with so many turns
     goes : (q : List Entry) → outcome ≡ go numbers' q
@@ -183,7 +197,7 @@ module _ (rule : ℕ → ℕ → Tread) (room pool n : ℕ) (lawful : Lawful rul
           s.0,
           (
             s.1,
-            ap (walk_from rule room s.0 numbers' q) (sym (used_is offset weight peak weight' peak' (rule offset held) (take met row) (take met' row') (rw (← is) is-weight) (rw (← is) is-peak) (rw (← is) callees')))
+            ap (walk_from rule room s.0 numbers' q) (sym (used_is offset weight peak weight' peak' (rule offset held) (take met row) (take met' row') (rw (← d.treads) is-weight) (rw (← d.treads) d.peaks) (rw (← d.treads) d.notes)))
                 ∙ sym (walk_goes rule room s.0 numbers offset held queue (found weight peak (take met row)) w.fresh numbers' q (there (go numbers' q) e))
                 ∙ ap (λ (k : ℕ). walk_from rule room k numbers (entry offset held ∷ queue) (found weight peak (take met row))) (sym s.1) ∙ w.goes_on,
           ),
@@ -210,7 +224,7 @@ module _ (rule : ℕ → ℕ → Tread) (room pool n : ℕ) (lawful : Lawful rul
               ready = r;
               fresh = omega arith;
               small = omega arith;
-              listed = listed';
+              listed = d.lists;
               left = g.0;
               enough = omega (arith, w.enough, g.1.0, l.1);
               goes_on = ap (λ (x : List Entry). walk_from rule room g.0 numbers' (entry to t.sum ∷ x) (found weight' peak' (take met' row'))) empty ∙ g.1.1;
@@ -247,7 +261,7 @@ module _ (rule : ℕ → ℕ → Tread) (room pool n : ℕ) (lawful : Lawful rul
             let k = some s.0 (omega (arith, s.1.0, s.1.1.0)) in
             let e : walked numbers' (found weight' peak' (take met' row')) ≡ walk_of rule room pool n =
             sym (walk_done rule room k.0 numbers' (found weight' peak' (take met' row'))) ∙ ap₂ (λ (m : ℕ) (x : List Entry). walk_from rule room m numbers' x (found weight' peak' (take met' row'))) (sym k.1) (sym f) ∙ s.1.1.1 in
-            (ap used_of e, (met', (listed', ap callees_of e)))
+            (ap used_of e, (met', (d.lists, ap callees_of e)))
 
         -- the first that is not skipped
         pub walking_next : (places'' carried'' : List ℕ) (from many : ℕ) (e : Waiting) → length places'' ≡ length places' → Firsts (Some e) numbers' places'' carried'' from many (waiting places' carried' head' waits)
@@ -268,7 +282,7 @@ module _ (rule : ℕ → ℕ → Tread) (room pool n : ℕ) (lawful : Lawful rul
                 ready = r;
                 fresh = h;
                 small = b;
-                listed = listed';
+                listed = d.lists;
                 left = s.0;
                 enough = omega (arith, w.enough, g.1.0, l.1, s.1.0);
                 goes_on = ap (λ (x : List Entry). walk_from rule room s.0 numbers' x (found weight' peak' (take met' row'))) (sym f) ∙ s.1.1.1;
