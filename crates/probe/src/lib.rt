@@ -112,7 +112,10 @@ pub extern "C" fn probe_stack(
         queue,
         queue_depths,
     };
-    put_fields(answer, stack::fields(stack::stack_check(&mut scratch, &program)))
+    put_fields(
+        answer,
+        stack::fields(stack::stack_check(&mut scratch, &program)),
+    )
 }
 
 // The pool call: its six fields go into the answer.
