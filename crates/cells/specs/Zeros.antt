@@ -17,6 +17,11 @@ zeros n = copies 0 n
 abbrev pub ZeroAfter : List ℕ → List ℕ → Type 0
 ZeroAfter first last = last ≡ zeros (length first)
 
+-- a column that is filled to its end
+pub filled : (first column : List ℕ) (i : ℕ) → length first ≤ i → i ≤ length first → column ≡ replicate i 0 ++ drop i first → column ≡ zeros (length first)
+unfolding copies
+filled first column i l g e = let n : i ≡ length first = omega arith in e ∙ rw (n, drop-length first) (append-nil _)
+
 pub zero_at : (n i : ℕ) → get_or (zeros n) i 0 ≡ 0
 unfolding copies
 zero_at zero i = refl

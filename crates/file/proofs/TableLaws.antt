@@ -10,7 +10,7 @@ use Rattle.seven.proofs.Laws.{Stands, stands}
 use Rattle.file.specs.declared.Refused.{Refused}
 use Rattle.file.specs.declared.Table.{Table}
 use Rattle.file.specs.declared.Layout.{Layout}
-use Rattle.file.specs.Numbers.{if_read, or_refused, number_in, run_of, on_value, numbers}
+use Rattle.file.specs.Numbers.{refused, if_read, or_refused, number_in, run_of, on_value, numbers}
 use Rattle.file.specs.Tables.{table, on_count, table_of, code_end, layout_of}
 use Rattle.file.proofs.RunLaws.{never, same_result, there}
 
@@ -110,3 +110,17 @@ pub all_there : (count : ℕ) (file : List ℕ) (at end : ℕ) → run_of count 
 unfolding run_of numbers number_in
 all_there zero file at end e = refl
 all_there (suc count) file at end e = one_there file at count end (number_at file at) (λ next f. all_there count file next end f) e
+
+-- what is refused did not go well, be it a number's refusal or a table's
+pub never_at : {A P : Type 0} {r : Refused} {end : A} → ◌≡◌ {A = Result A Refused} (Err r) (Ok end) → P
+never_at e = absurd (let z : ◌≡◌ {A = ℕ} 0 1 = cc in omega arith)
+
+pub no_bad : {P : Type 0} {at end : ℕ} → ◌≡◌ {A = Result ℕ Refused} (Err (refused 40 at)) (Ok end) → P
+no_bad e = never_at e
+
+pub no_early : {P : Type 0} {at end : ℕ} → ◌≡◌ {A = Result ℕ Refused} (Err (refused 41 at)) (Ok end) → P
+no_early e = never_at e
+
+-- no table that stands has more rows than its limit
+pub low : (file : List ℕ) (at limit width : ℕ) (t : Table) → table_of file at limit width ≡ Ok t → t.count ≤ limit
+low file at limit width t e = (stood file at limit width t e).low
