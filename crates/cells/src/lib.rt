@@ -68,11 +68,10 @@ impl Cell for usize {
 pub fn at<T: Cell>(column: &[T], i: usize) -> T
     ensures { result ≡ get_or column.now i T.zero }
 {
-    if i < column.len() {
-        column[i]
-    } else {
-        T::zero()
+    if column.len() <= i {
+        return T::zero();
     }
+    column[i]
 }
 
 // A value into the cell at a place.
