@@ -8,7 +8,7 @@ ghost use Rattle.pool.specs.Plain.{PlainGoesOn};
 ghost use Rattle.pool.specs.Columns.{Turns, Listed, Walks, Fitting};
 ghost use Rattle.pool.specs.Stated.{rule_in, queue_in, ReadyIn, SameRoom};
 
-use crate::ring::Ring;
+use crate::ring::{Ring, Waiting};
 use crate::tread::tread;
 use buffers::{Unwalked, Usage, Way};
 use callees::Sources;
@@ -90,26 +90,26 @@ pub(crate) fn walk(
         head: 0,
         count: 0,
     };
-    let mut offset: usize = 0;
-    let mut held: u32 = 0;
+    let mut entry = Waiting { offset: 0, held: 0 };
     let mut weight: u32 = 0;
     let mut peak: usize = 0;
     let mut met: usize = 0;
     loop {
-        let step = tread(sources, marks, body, offset, held);
+        let step = tread(sources, marks, body, entry.offset, entry.held);
         met = note(row, met, step.opens);
         let sum = step.sum;
-        peak = peak_with(weight, sum, peak, offset);
+        peak = peak_with(weight, sum, peak, entry.offset);
         weight = weight.max(sum);
         if let Some(to) = follow_on(numbers, &mut ring, sum, step.way)? {
-            offset = to;
-            held = sum;
+            entry = Waiting {
+                offset: to,
+                held: sum,
+            };
             continue;
         }
-        let Some(waiting) = ring.first(numbers) else {
+        let Some(next) = ring.first(numbers) else {
             return Ok(Usage { weight, peak });
         };
-        offset = waiting.offset;
-        held = waiting.held;
+        entry = next;
     }
 }

@@ -18,7 +18,7 @@ law sources marks body fits = tread_lawful _ _ _ _ _ _ _ _ _ _ fits
 
 trod : (c : After-follow_on)
     → Trod (rule_in c.args.sources.now c.args.marks.now c.args.body.now) (2 * length c.args.body.now + 2) c.args.sources.now.program.pool (length c.args.body.now + 1)
-    c.loop-to.numbers c.loop-to.ring.places.now c.loop-to.ring.carried.now c.loop-to.row c.loop-to.ring.head c.loop-to.ring.count c.loop-to.offset c.loop-to.held c.loop-to.weight c.loop-to.peak c.loop-to.met
+    c.loop-to.numbers c.loop-to.ring.places.now c.loop-to.ring.carried.now c.loop-to.row c.loop-to.ring.head c.loop-to.ring.count c.loop-to.entry.offset c.loop-to.entry.held c.loop-to.weight c.loop-to.peak c.loop-to.met
     c.tread-step.result c.note-met.new.row c.note-met.result c.max-weight.result c.peak_with-peak.result
 trod c = record {
   lawful = law c.args.sources.now c.args.marks.now c.args.body.now c.requires.plain_goes_on.1.0;
