@@ -29,8 +29,7 @@ pub enum Flow {
     Return,
 }
 
-// A place counted from the body's start: so many bytes after it, or before it. No i64: `moved` answers any `next` above a body's length as it came, and
-// no signed number holds every usize.
+// A place counted from the body's start: so many bytes after it, or before it.
 #[derive(Clone, Copy, PartialEq, Eq, Debug)]
 pub enum Spot {
     At(usize),
@@ -103,12 +102,12 @@ pub fn flow_of(op: u8, operands: &[u8]) -> Flow
     ensures { result ≡ flow_of op operands.now }
 {
     match op {
-        tables::JMP => Flow::Jump(word_at(operands, 0)),
-        tables::JMP_IF_NOT => Flow::Branch(word_at(operands, 0)),
-        tables::CMP_BR_I32 => Flow::Branch(word_at(operands, 5)),
-        tables::CMP_BR_I64 => Flow::Branch(word_at(operands, 5)),
-        tables::RET => Flow::Return,
-        tables::RET_VOID => Flow::Return,
+        0x7C => Flow::Jump(word_at(operands, 0)),
+        0x80 => Flow::Branch(word_at(operands, 0)),
+        0xF4 => Flow::Branch(word_at(operands, 5)),
+        0xF5 => Flow::Branch(word_at(operands, 5)),
+        0x88 => Flow::Return,
+        0x8C => Flow::Return,
         _ => Flow::Next,
     }
 }

@@ -33,7 +33,6 @@ pub fn mark_starts(marks: &mut [u8], sizes: &[u8; 256], body: &[u8]) -> Result<(
     ensures { (result ≡ end_of (walk_by (size_in sizes.now) body.now 0)) × (marks.new ≡ mark_all (walk_by (size_in sizes.now) body.now 0) marks.old) }
 {
     let mut at: usize = 0;
-    // No `for`: each turn goes on by an instruction's size.
     while at < body.len() {
         let from = mark_ones(marks, sizes, body, at);
         let step = decode_step(sizes, body, from);
@@ -72,7 +71,6 @@ pub fn has_ret(sizes: &[u8; 256], body: &[u8]) -> bool
     ensures { result ≡ has_ret (walk_by (size_in sizes.now) body.now 0) }
 {
     let mut at: usize = 0;
-    // No `for`: each turn goes on by an instruction's size.
     while at < body.len() {
         let from = skip_ones(sizes, body, at);
         let step = decode_step(sizes, body, from);
