@@ -1,15 +1,14 @@
 // The bodies of a program, one after the other, over scratch that is zero before each and after each: weight, peak offset and callees of each.
 ghost use Rattle.std.specs.Prelude.{◌≡◌, ◌+◌, ◌*◌, ◌≤◌, ◌<◌, length};
 ghost use Rattle.cells.specs.Zeros.{zeros};
-ghost use Rattle.pool.specs.Plain.{PlainGoesOn};
 ghost use Rattle.pool.specs.Columns.{Walks, Cleared, Roomy, Blank, Lays};
 ghost use Rattle.pool.specs.Stated.{body_in, walk_in};
 ghost use Rattle.pool.specs.Usages.{Found};
 
 use crate::Fault;
+use crate::temp_rules::TempRules;
 use crate::walk::walk;
 use buffers::{Unwalked, Usage};
-use callees::Sources;
 
 // Decoded, then walked, over scratch of the body's size.
 fn run(
@@ -18,17 +17,16 @@ fn run(
     places: &mut [u16],
     carried: &mut [u16],
     row: &mut [u8],
-    sizes: &[u8; 256],
-    sources: &Sources<'_>,
+    rules: &TempRules<'_>,
     body: &[u8],
 ) -> Result<Usage, Unwalked>
     requires marks_value { (marks.old ≡ zeros (length body.now)) × ((numbers.old ≡ zeros (length body.now + 1)) × ((length places.old ≡ 2 * length body.now + 2) × ((length carried.old ≡ 2 * length body.now + 2) × (row.old ≡ zeros 128)))) }
-    requires plain_goes_on { PlainGoesOn sources.now.words.now × ((length body.now ≤ 65535) × (sources.now.program.pool < 65535)) }
-    ensures { Walks result row.new (body_in sizes.now sources.now body.now) }
+    requires body_len_bound { length body.now ≤ 65535 }
+    ensures { Walks result row.new (body_in rules.now.sizes.now rules.now.sources body.now) }
 {
-    flow::starts::mark_starts(marks, sizes, body)?;
+    flow::starts::mark_starts(marks, rules.sizes, body)?;
     numbers[0] = 1;
-    walk(numbers, places, carried, row, sources, marks, body)
+    walk(numbers, places, carried, row, rules, marks, body)
 }
 
 // One body, over the front of the scratch. Its marks and numbers are cleared; the queue holds anything.
@@ -38,13 +36,11 @@ fn one(
     places: &mut [u16],
     carried: &mut [u16],
     row: &mut [u8],
-    sizes: &[u8; 256],
-    sources: &Sources<'_>,
+    rules: &TempRules<'_>,
     body: &[u8],
 ) -> Result<Usage, Unwalked>
-    requires cleared { Cleared marks.old numbers.old × (Roomy (length body.now) marks.old numbers.old places.old carried.old × (row.old ≡ zeros 128)) }
-    requires plain_goes_on { PlainGoesOn sources.now.words.now × (sources.now.program.pool < 65535) }
-    ensures { Walks result row.new (body_in sizes.now sources.now body.now) × ((marks.new ≡ zeros (length marks.old)) × (numbers.new ≡ zeros (length numbers.old))) }
+    requires { Cleared marks.old numbers.old × (Roomy (length body.now) marks.old numbers.old places.old carried.old × (row.old ≡ zeros 128)) }
+    ensures { Walks result row.new (body_in rules.now.sizes.now rules.now.sources body.now) × ((marks.new ≡ zeros (length marks.old)) × (numbers.new ≡ zeros (length numbers.old))) }
 {
     let n = body.len();
     let e = n + 1;
@@ -55,8 +51,7 @@ fn one(
         &mut places[..q],
         &mut carried[..q],
         row,
-        sizes,
-        sources,
+        rules,
         body,
     );
     cells::clear(&mut marks[..n]);
@@ -71,14 +66,12 @@ fn at_row(
     places: &mut [u16],
     carried: &mut [u16],
     cells: &mut [u8],
-    sizes: &[u8; 256],
-    sources: &Sources<'_>,
+    rules: &TempRules<'_>,
     body: &[u8],
     row: usize,
 ) -> Result<Usage, Unwalked>
-    requires cleared { Cleared marks.old numbers.old × (Roomy (length body.now) marks.old numbers.old places.old carried.old × Blank row cells.old) }
-    requires plain_goes_on { PlainGoesOn sources.now.words.now × (sources.now.program.pool < 65535) }
-    ensures { Lays result (row * 128) cells.old cells.new (body_in sizes.now sources.now body.now) × ((marks.new ≡ zeros (length marks.old)) × (numbers.new ≡ zeros (length numbers.old))) }
+    requires { Cleared marks.old numbers.old × (Roomy (length body.now) marks.old numbers.old places.old carried.old × Blank row cells.old) }
+    ensures { Lays result (row * 128) cells.old cells.new (body_in rules.now.sizes.now rules.now.sources body.now) × ((marks.new ≡ zeros (length marks.old)) × (numbers.new ≡ zeros (length numbers.old))) }
 {
     let at = row * 128;
     let end = at + 128;
@@ -88,8 +81,7 @@ fn at_row(
         places,
         carried,
         &mut cells[at..end],
-        sizes,
-        sources,
+        rules,
         body,
     )
 }
@@ -108,16 +100,15 @@ pub(crate) fn all(
     places: &mut [u16],
     carried: &mut [u16],
     cells: &mut [u8],
-    sizes: &[u8; 256],
-    sources: &Sources<'_>,
+    rules: &TempRules<'_>,
 ) -> Result<Usages, Fault>
-    requires cleared { Cleared marks.old numbers.old × (Roomy (length sources.now.program.program.code.now) marks.old numbers.old places.old carried.old × ((16384 ≤ length cells.old) × (cells.old ≡ zeros (length cells.old)))) }
-    requires plain_goes_on { PlainGoesOn sources.now.words.now × ((sources.now.program.pool < 65535) × (length sources.now.program.program.functions.ids.now ≤ 128)) }
-    ensures found { Found result cells.new (walk_in sizes.now sources.now) sources.now.program.program.functions.ids.now }
+    requires cleared { Cleared marks.old numbers.old × (Roomy (length rules.now.sources.program.program.code.now) marks.old numbers.old places.old carried.old × ((16384 ≤ length cells.old) × (cells.old ≡ zeros (length cells.old)))) }
+    requires functions_limit { length rules.now.sources.program.program.functions.ids.now ≤ 128 }
+    ensures found { Found result cells.new (walk_in rules.now.sizes.now rules.now.sources) rules.now.sources.program.program.functions.ids.now }
     ensures marks_after { (marks.new ≡ zeros (length marks.old)) × (numbers.new ≡ zeros (length numbers.old)) }
 {
-    let functions = &sources.program.program.functions;
-    let code = sources.program.program.code;
+    let functions = &rules.sources.program.program.functions;
+    let code = rules.sources.program.program.code;
     let mut weights = [0u16; 128];
     let mut peaks = [0usize; 128];
     for row in 0..functions.ids.len() {
@@ -126,9 +117,7 @@ pub(crate) fn all(
             cells::at(functions.offsets, row),
             cells::at(functions.lengths, row),
         );
-        let used = at_row(
-            marks, numbers, places, carried, cells, sizes, sources, body, row,
-        );
+        let used = at_row(marks, numbers, places, carried, cells, rules, body, row);
         match used {
             Ok(usage) => {
                 weights[row] = usage.weight as u16;

@@ -4,6 +4,7 @@
 
 mod bodies;
 mod ring;
+mod temp_rules;
 mod tread;
 mod walk;
 
@@ -22,6 +23,7 @@ use bodies::Usages;
 use buffers::Unwalked;
 use callees::Sources;
 use program::{PoolProgram, Refusal, Scratch};
+use temp_rules::TempRules;
 use visit::Overrun;
 
 // Why the call does not accept: the input refused, 20 with the function that closed above the pool and its peak offset, 21, 22 or 23.
@@ -102,7 +104,7 @@ fn checked(
     ensures value { result ≡ taken_answer (pool_program_in program.now) }
     ensures zero_after { ZeroAfter marks.old marks.new × (ZeroAfter depths.old depths.new × (ZeroAfter queue.old queue.new × (ZeroAfter queue_depths.old queue_depths.new × ZeroAfter cells.old cells.new))) }
 {
-    prove!(program.pool < 65535); // 35 has been tested, so that a weight past the pool is a number of 16 bits
+    prove!(program.pool < 65535); // 35 has been tested
     let sizes = tables::sizes();
     let words = tables::words();
     let mut hints = [0u16; 8192];
@@ -119,7 +121,11 @@ fn checked(
         hints: &hints,
         program: *program,
     };
-    let usages = bodies::all(marks, depths, queue, queue_depths, cells, &sizes, &sources);
+    let rules = TempRules {
+        sizes: &sizes,
+        sources,
+    };
+    let usages = bodies::all(marks, depths, queue, queue_depths, cells, &rules);
     let verdict = judged(cells, usages, program);
     cells::clear(queue);
     cells::clear(queue_depths);

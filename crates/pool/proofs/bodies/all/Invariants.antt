@@ -6,4 +6,4 @@ use Rattle.pool.proofs.bodies.all.Given as goal
 
 abbrev pub invariant-loop-row : goal.invariant-loop-row
 invariant-loop-row l =
-    Going (walk_in l.sizes l.sources) l.sources.program.program.functions.ids.now l.initial.marks l.initial.numbers l.initial.places l.initial.carried l.initial.cells l.marks l.numbers l.places l.carried l.cells l.weights l.peaks l.row
+    Going (walk_in l.rules.sizes.now l.rules.sources) l.rules.sources.program.program.functions.ids.now l.initial.marks l.initial.numbers l.initial.places l.initial.carried l.initial.cells l.marks l.numbers l.places l.carried l.cells l.weights l.peaks l.row
