@@ -10,7 +10,6 @@ ghost use Rattle.std.specs.Iterator.{IsFinite};
 
 use file::{Columns, Refused, Sizes};
 use std::io;
-use std::io::Read;
 
 // Two bytes, low byte first.
 pub fn word(script: &[u8], at: usize) -> u16
@@ -190,22 +189,8 @@ fn run(rt: &impl Print, script: &[u8]) -> io::Result<()>
     Ok(())
 }
 
-// Reads until the buffer is full, the input ends or a read fails, and says how many bytes it put at the front.
-fn read_full<R: Read>(input: &mut R, bytes: &mut [u8]) -> usize
-    ensures { result ≤ length bytes.new }
-{
-    let mut done = 0;
-    while done < bytes.len() {
-        match input.read(&mut bytes[done..]) {
-            Ok(0) | Err(_) => break,
-            Ok(n) => done += n,
-        }
-    }
-    done
-}
-
 fn main(rt: HostRuntime) -> io::Result<()> {
     let mut script = [0u8; 65536];
-    let n = read_full(&mut rt.stdin(), &mut script);
+    let n = input::read_full(&mut rt.stdin(), &mut script);
     run(&rt, &script[..n])
 }
