@@ -1,6 +1,5 @@
 // The first-in first-out walk of a body, from offset 0 at depth 0. The definition is rules' `walk_of`.
 ghost use Rattle.std.specs.Prelude.{◌≡◌, true, ◌+◌, ◌-◌, ◌≤◌, ◌<◌, length, get_or, take, Ok};
-ghost use Rattle.tables.specs.Stored.{GoesOn};
 ghost use Rattle.rules.specs.declared.Onward.{Onward};
 ghost use Rattle.rules.specs.Look.{look_of, Bounded};
 ghost use Rattle.rules.specs.Walk.{put, follow, begun, walk_of};
@@ -8,7 +7,7 @@ ghost use Rattle.effects.specs.Stated.{known_in};
 ghost use Rattle.stack.specs.Columns.{meet_of, Ready, Puts, Turns, Fitting};
 
 use crate::look::look;
-use effects::Sources;
+use crate::program_rules::Rules;
 use rules::{Onward, Violation};
 
 // How a successor stands to the depth that it is to have: it has none yet, or that one.
@@ -140,7 +139,7 @@ fn follow_on(
 fn turn_at(
     depths: &mut [u32],
     queue: &mut [u16],
-    sources: &Sources<'_>,
+    rules: &Rules<'_>,
     marks: &[u8],
     body: &[u8],
     maximum: u16,
@@ -150,10 +149,10 @@ fn turn_at(
     depth: u64,
 ) -> Result<Turn, Violation>
     requires ready { Ready depths.old queue.old tail × (length depths.old ≡ length body.now + 1) }
-    requires goes_on { GoesOn sources.now.words.now × (Fitting marks.now body.now × (depth < 4294967296)) }
-    ensures { Turns alone tail queue.old result depths.new queue.new (follow depths.old (take tail queue.old) (look_of (known_in sources.now) marks.now body.now maximum offset depth)) }
+    requires fits { Fitting marks.now body.now × (depth < 4294967296) }
+    ensures { Turns alone tail queue.old result depths.new queue.new (follow depths.old (take tail queue.old) (look_of (known_in rules.now.sources) marks.now body.now maximum offset depth)) }
 {
-    let onward = look(sources, marks, body, maximum, offset, depth)?;
+    let onward = look(rules, marks, body, maximum, offset, depth)?;
     follow_on(depths, queue, alone, tail, onward)
 }
 
@@ -169,14 +168,14 @@ fn depth_at(depths: &[u32], offset: usize) -> u64
 pub(crate) fn walk(
     depths: &mut [u32],
     queue: &mut [u16],
-    sources: &Sources<'_>,
+    rules: &Rules<'_>,
     marks: &[u8],
     body: &[u8],
     maximum: u16,
 ) -> Result<(), Violation>
     requires depths_value { (depths.old ≡ begun (length body.now + 1)) × ((length body.now + 1 ≤ length queue.old) × (length body.now ≤ 65535)) }
-    requires goes_on { GoesOn sources.now.words.now × Fitting marks.now body.now }
-    ensures { result ≡ walk_of (look_of (known_in sources.now) marks.now body.now maximum) (length body.now + 1) }
+    requires fits { Fitting marks.now body.now }
+    ensures { result ≡ walk_of (look_of (known_in rules.now.sources) marks.now body.now maximum) (length body.now + 1) }
 {
     let mut head: usize = 0;
     let mut tail: usize = 0;
@@ -186,7 +185,7 @@ pub(crate) fn walk(
         let turn = turn_at(
             depths,
             queue,
-            sources,
+            rules,
             marks,
             body,
             maximum,
