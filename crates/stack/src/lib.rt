@@ -5,6 +5,7 @@
 mod bodies;
 mod look;
 mod program_rules;
+mod queue;
 mod walk;
 
 ghost use Rattle.std.specs.Prelude.{◌≡◌, length};
