@@ -3,13 +3,12 @@
 use Prim.Native.Nat.{ℕ, ◌+◌, ◌≤◌}
 use native.Mathlib.Omega.{arith}
 use mathlib.Core.Path.{◌≡◌, refl, sym, ap, ◌∙◌}
-use mathlib.Core.Bool.{Bool, true, false}
+use mathlib.Core.Bool.{false}
 use mathlib.Core.List.{List}
 use lib.ListN.{length, take, drop, replicate, length-append, length-replicate}
 use lib.Seq.{take_at}
-use Rattle.program.specs.Program.{PoolProgram, list_of, functions_of, program_of, descriptors_of, pool_program_of}
+use Rattle.program.specs.Program.{PoolProgram}
 use Rattle.program.specs.declared.Refusal.{Refusal}
-use Rattle.program.specs.declared.Room.{Room}
 use Rattle.program.specs.Refusals.{refusal_number, refusal_place, room_of, pool_input, Input}
 use Rattle.file.specs.declared.Sizes.{Sizes}
 use Rattle.file.specs.declared.Refused.{Refused}

@@ -10,7 +10,6 @@ ghost use Rattle.std.specs.Iterator.{IsFinite};
 
 use file::{Columns, Refused, Sizes};
 use std::io;
-use std::io::Read;
 
 // Two bytes, low byte first.
 pub fn word(script: &[u8], at: usize) -> u16
@@ -35,29 +34,13 @@ pub fn summed<I: Iterator<Item = u64> + Drop>(sum: u64, column: I) -> u64
     h
 }
 
-pub fn field(rt: &impl Print, n: u64) -> io::Result<()> {
-    rt.write_all(b" ")?;
-    rt.print(n)
-}
-
-fn show_sizes(rt: &impl Print, s: Sizes) -> io::Result<()> {
-    rt.write_all(b"READ")?;
-    field(rt, u64::from(s.pool))?;
-    field(rt, s.rows as u64)?;
-    field(rt, s.functions as u64)?;
-    field(rt, s.descriptors as u64)?;
-    field(rt, s.entries as u64)?;
-    field(rt, s.code as u64)
-}
-
 fn show_outcome(rt: &impl Print, outcome: Result<Sizes, Refused>) -> io::Result<()> {
     match outcome {
-        Ok(sizes) => show_sizes(rt, sizes),
-        Err(Refused { number, place }) => {
-            rt.write_all(b"INPUT")?;
-            field(rt, u64::from(number))?;
-            field(rt, place as u64)
-        }
+        Ok(s) => print!(rt;
+            "READ {} {} {} {} {} {}",
+            s.pool, s.rows, s.functions, s.descriptors, s.entries, s.code
+        ),
+        Err(Refused { number, place }) => print!(rt; "INPUT {number} {place}"),
     }
 }
 
@@ -74,8 +57,7 @@ fn show_sum(rt: &impl Print, c: &Columns<'_>) -> io::Result<()> {
     let h = summed(h, c.descriptor_functions.iter().map(|n| u64::from(*n)));
     let h = summed(h, c.entries.iter().map(|n| u64::from(*n)));
     let h = summed(h, c.code.iter().map(|n| u64::from(*n)));
-    field(rt, h)?;
-    rt.write_all(b"\n")
+    println!(rt; " {h}")
 }
 
 // Of a column's cells all but one, where it is the short one.
@@ -190,22 +172,8 @@ fn run(rt: &impl Print, script: &[u8]) -> io::Result<()>
     Ok(())
 }
 
-// Reads until the buffer is full, the input ends or a read fails, and says how many bytes it put at the front.
-fn read_full<R: Read>(input: &mut R, bytes: &mut [u8]) -> usize
-    ensures { result ≤ length bytes.new }
-{
-    let mut done = 0;
-    while done < bytes.len() {
-        match input.read(&mut bytes[done..]) {
-            Ok(0) | Err(_) => break,
-            Ok(n) => done += n,
-        }
-    }
-    done
-}
-
 fn main(rt: HostRuntime) -> io::Result<()> {
     let mut script = [0u8; 65536];
-    let n = read_full(&mut rt.stdin(), &mut script);
+    let n = input::read_full(&mut rt.stdin(), &mut script);
     run(&rt, &script[..n])
 }

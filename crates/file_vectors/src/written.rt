@@ -3,7 +3,7 @@
 // of one offset and one length, each in two numbers; and how many bytes are lent, in two numbers.
 ghost use Rattle.std.specs.Prelude.{◌<◌};
 
-use crate::{field, summed, word};
+use crate::{summed, word};
 use file_writer::{Tables, Unwritten};
 use std::io;
 
@@ -23,10 +23,6 @@ fn long(script: &[u8], from: usize, index: usize) -> usize {
     size(script, from, index) + 65536 * size(script, from, index % 64 + 1)
 }
 
-fn front<T>(column: &[T], n: usize) -> &[T] {
-    column.get(..n).unwrap_or(column)
-}
-
 // Words that rise by a step, from 65,535 on again from 0.
 fn fill(words: &mut [u16; 6145], first: u16, step: u16) {
     let mut next = first;
@@ -38,15 +34,9 @@ fn fill(words: &mut [u16; 6145], first: u16, step: u16) {
 
 fn show_wrote(rt: &impl Print, wrote: Result<usize, Unwritten>) -> io::Result<()> {
     match wrote {
-        Ok(size) => {
-            rt.write_all(b"WROTE")?;
-            field(rt, size as u64)
-        }
-        Err(Unwritten::Refused { number }) => {
-            rt.write_all(b"REFUSED")?;
-            field(rt, u64::from(number))
-        }
-        Err(Unwritten::NoRoom) => rt.write_all(b"NO ROOM"),
+        Ok(size) => print!(rt; "WROTE {size}"),
+        Err(Unwritten::Refused { number }) => print!(rt; "REFUSED {number}"),
+        Err(Unwritten::NoRoom) => print!(rt; "NO ROOM"),
     }
 }
 
@@ -62,18 +52,18 @@ pub fn show_case(rt: &impl Print, script: &[u8], from: usize) -> io::Result<()> 
     cells::put(&mut offsets, row, long(script, from, 16));
     cells::put(&mut lengths, row, long(script, from, 18));
     let tables = Tables {
-        list_ids: front(&words, size(script, from, 3)),
-        list_counts: front(&words, size(script, from, 4)),
-        list_flags: front(&words, size(script, from, 5)),
-        function_ids: front(&words, size(script, from, 6)),
-        parameters: front(&words, size(script, from, 7)),
-        maxima: front(&words, size(script, from, 8)),
-        offsets: front(&offsets, size(script, from, 9)),
-        lengths: front(&lengths, size(script, from, 10)),
-        type_ids: front(&words, size(script, from, 11)),
-        descriptor_functions: front(&words, size(script, from, 12)),
-        entries: front(&words, size(script, from, 13)),
-        code: front(&code, size(script, from, 14)),
+        list_ids: cells::part(&words, 0, size(script, from, 3)),
+        list_counts: cells::part(&words, 0, size(script, from, 4)),
+        list_flags: cells::part(&words, 0, size(script, from, 5)),
+        function_ids: cells::part(&words, 0, size(script, from, 6)),
+        parameters: cells::part(&words, 0, size(script, from, 7)),
+        maxima: cells::part(&words, 0, size(script, from, 8)),
+        offsets: cells::part(&offsets, 0, size(script, from, 9)),
+        lengths: cells::part(&lengths, 0, size(script, from, 10)),
+        type_ids: cells::part(&words, 0, size(script, from, 11)),
+        descriptor_functions: cells::part(&words, 0, size(script, from, 12)),
+        entries: cells::part(&words, 0, size(script, from, 13)),
+        code: cells::part(&code, 0, size(script, from, 14)),
     };
     if let Some(lent) = out.get_mut(..long(script, from, 20)) {
         show_wrote(
@@ -81,6 +71,5 @@ pub fn show_case(rt: &impl Print, script: &[u8], from: usize) -> io::Result<()> 
             file_writer::write_file(lent, number(script, from, 0), &tables),
         )?;
     }
-    field(rt, summed(0, out.iter().map(|n| u64::from(*n))))?;
-    rt.write_all(b"\n")
+    println!(rt; " {}", summed(0, out.iter().map(|n| u64::from(*n))))
 }

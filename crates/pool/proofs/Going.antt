@@ -16,7 +16,7 @@ use Rattle.buffers.specs.Walk.{Walked, undecodable, crowded, unfinished, walked,
 use Rattle.visit.specs.Cells.{callees_in}
 use Rattle.pool.specs.declared.Fault.{Fault}
 use Rattle.pool.specs.declared.bodies.Usages.{Usages}
-use Rattle.pool.specs.Columns.{Walks, RowHolds, Listed, Cleared, Laid, Lays}
+use Rattle.pool.specs.Columns.{Walks, RowHolds, Listed, Laid, Lays}
 use Rattle.pool.specs.Pool.{weight_of, peak_of, rows_in, fault_of, on_used, functions_from, Verdict}
 use Rattle.pool.specs.Usages.{walks_by, Told, IfWalked, Found}
 use Rattle.pool.proofs.Rows.{row_read, row_empty, row_stays}
@@ -29,12 +29,8 @@ row_walk walk offsets lengths code row offset n body r at first last o l b y =
     let e : body ≡ take (get_or lengths row 0) (drop (get_or offsets row 0) code) = b ∙ ap₂ (λ (m k : ℕ). take m (drop k code)) l o in
     rw (← e) y
 
-pub record Going (walk : ℕ → Walked) (ids marks₀ numbers₀ places₀ carried₀ cells₀ marks numbers places carried cells weights peaks : List ℕ) (row : ℕ) : Type 0 where
+pub record Going (walk : ℕ → Walked) (ids cells₀ cells weights peaks : List ℕ) (row : ℕ) : Type 0 where
   pub within : row ≤ length ids
-  pub marks_zero : marks ≡ zeros (length marks₀)
-  pub numbers_zero : numbers ≡ zeros (length numbers₀)
-  pub places_same : length places ≡ length places₀
-  pub carried_same : length carried ≡ length carried₀
   pub cells_same : length cells ≡ length cells₀
   pub blank : (i : ℕ) → row * 128 ≤ i → get_or cells i 0 ≡ 0
   pub calls : (f : ℕ) → f < row → callees_in cells f ≡ rows_in (callees_of (walk f))
@@ -46,18 +42,14 @@ pub record Going (walk : ℕ → Walked) (ids marks₀ numbers₀ places₀ carr
   pub blank_peaks : (f : ℕ) → row ≤ f → get_or peaks f 0 ≡ 0
   pub goes_on : (rest : Verdict) → functions_from walk ids rest (length ids - row) row ≡ functions_from walk ids rest (length ids) 0
 
-pub going_first : (walk : ℕ → Walked) (ids marks numbers places carried cells weights peaks : List ℕ) → Cleared marks numbers → cells ≡ zeros (length cells) → weights ≡ replicate 128 0 → peaks ≡ replicate 128 0
-    → Going walk ids marks numbers places carried cells marks numbers places carried cells weights peaks 0
-going_first walk ids marks numbers places carried cells weights peaks c z w p =
+pub going_first : (walk : ℕ → Walked) (ids cells weights peaks : List ℕ) → cells ≡ zeros (length cells) → weights ≡ replicate 128 0 → peaks ≡ replicate 128 0
+    → Going walk ids cells cells weights peaks 0
+going_first walk ids cells weights peaks z w p =
     let n : length ids - 0 ≡ length ids = omega arith in
     let w' : weights ≡ zeros 128 = w ∙ sym (zeros_are 128) in
     let p' : peaks ≡ zeros 128 = p ∙ sym (zeros_are 128) in
     record {
       within = omega arith;
-      marks_zero = c.marks_zero;
-      numbers_zero = c.numbers_zero;
-      places_same = refl;
-      carried_same = refl;
       cells_same = refl;
       blank = λ i h. any_zero cells (length cells) z i;
       calls = λ f h. absurd (omega arith);
@@ -90,8 +82,8 @@ set_by : (column : List ℕ) (row value : ℕ) (on : ℕ → ℕ) → row < leng
 set_by column row value on l h v f k (yes e) = rw e (get_or-set_same column row value 0 l ∙ v)
 set_by column row value on l h v f k (no n) = get_or-set_other column row f value 0 n ∙ h f (omega arith)
 
-module _ (walk : ℕ → Walked) (ids marks₀ numbers₀ places₀ carried₀ cells₀ marks numbers places carried cells weights peaks : List ℕ) (row : ℕ)
-    (g : Going walk ids marks₀ numbers₀ places₀ carried₀ cells₀ marks numbers places carried cells weights peaks row) where
+module _ (walk : ℕ → Walked) (ids cells₀ cells weights peaks : List ℕ) (row : ℕ)
+    (g : Going walk ids cells₀ cells weights peaks row) where
   -- every function was walked
   pub going_end : length ids ≤ row → length ids ≤ 128 → (usages : Usages) → usages.weights ≡ weights → usages.peaks ≡ peaks → Found (Ok usages) cells walk ids
   unfolding Told IfWalked
@@ -130,20 +122,16 @@ module _ (walk : ℕ → Walked) (ids marks₀ numbers₀ places₀ carried₀ c
     calls_by last found met laid listed t f k (yes e) = rw e (row_read last found row met listed laid.here ∙ ap rows_in t)
     calls_by last found met laid listed t f k (no n) = row_stays cells last f (λ i j. laid.before (f * 128 + i) (omega arith)) ∙ g.calls f (omega arith)
 
-    pub going_more : row < 128 → (usage : told.Usage) (used : Used) (m d p c last : List ℕ) → Lays used (row * 128) cells last (walk row) → used ≡ Ok usage
-        → m ≡ zeros (length marks) → d ≡ zeros (length numbers) → length p ≡ length places → length c ≡ length carried → length last ≡ length cells
-        → Going walk ids marks₀ numbers₀ places₀ carried₀ cells₀ m d p c last (set weights row usage.weight) (set peaks row usage.peak) (row + 1)
+    pub going_more : row < 128 → (usage : told.Usage) (used : Used) (last : List ℕ) → Lays used (row * 128) cells last (walk row) → used ≡ Ok usage
+        → length last ≡ length cells
+        → Going walk ids cells₀ last (set weights row usage.weight) (set peaks row usage.peak) (row + 1)
     unfolding Walks RowHolds
-    going_more small usage used m d p c last lays e em ed ep ec el =
+    going_more small usage used last lays e el =
         let u = uses_walked (walk row) usage (sym e ∙ lays_used used (row * 128) cells last (walk row) lays) in
         let laid = lays.laid in
         let held : (met : ℕ) × (Listed lays.found met × (take met lays.found ≡ callees_of (walk row))) = held_by used usage lays.found (callees_of (walk row)) e lays.holds.1 in
         record {
           within = omega arith;
-          marks_zero = em ∙ ap zeros (length_zeros marks (length marks₀) g.marks_zero);
-          numbers_zero = ed ∙ ap zeros (length_zeros numbers (length numbers₀) g.numbers_zero);
-          places_same = ep ∙ g.places_same;
-          carried_same = ec ∙ g.carried_same;
           cells_same = el ∙ g.cells_same;
           blank = λ i h. laid.after i (omega arith) ∙ g.blank i (omega arith);
           calls = λ f h. calls_by last lays.found held.0 laid held.1.0 held.1.1 f h (ℕ_discrete f row);

@@ -12,5 +12,6 @@ pub mod Walking
 pub mod Treading
 pub mod Running
 pub mod Rows
+pub mod Giving
 pub mod Going
 pub mod Calling

@@ -2,18 +2,21 @@
 -- visit's answer; and a queue that waits in its two columns.
 -- Assumes nothing.
 use Rattle.std.specs.Prelude.{ℕ, ◌≡◌, List, length, get_or}
+use Rattle.cells.specs.Zeros.{zeros}
 use Rattle.tables.specs.Packed.{size_in}
 use Rattle.buffers.specs.declared.Tread.{Tread}
 use Rattle.buffers.specs.Tread.{tread_of}
 use Rattle.buffers.specs.Walk.{Entry, Walked}
 use Rattle.program.specs.declared.PoolProgram.{PoolProgram}
+use Rattle.program.specs.declared.Scratch.{Scratch}
+use Rattle.program.specs.Stated.{SameColumns}
 use Rattle.callees.specs.declared.Sources.{Sources}
 use Rattle.callees.specs.Stated.{temps_in, opens_in}
 use Rattle.visit.specs.Visit.{visit_of}
 use Rattle.visit.specs.Cells.{graph_in, entry_rows}
 use Rattle.pool.specs.declared.bodies.Usages.{Usages}
 use Rattle.pool.specs.declared.ring.Ring.{Ring}
-use Rattle.pool.specs.Columns.{waiting, Ready}
+use Rattle.pool.specs.Columns.{waiting, Ready, Cleared, Roomy}
 use Rattle.pool.specs.Pool.{Verdict, body_walk, on_visited}
 use Rattle.pool.specs.Usages.{walks_by}
 
@@ -44,3 +47,18 @@ ReadyIn numbers r = Ready numbers r.places.now r.carried.now r.head r.count
 -- the columns keep their room
 abbrev pub SameRoom : Ring → Ring → Type 0
 SameRoom first last = length last.places.now ≡ length first.places.now
+
+-- ---- the scratch: its depths are the walk's numbers, its queue columns the places and what is carried there
+abbrev pub ClearedIn : Scratch → Type 0
+ClearedIn s = Cleared s.marks.now s.depths.now
+
+abbrev pub RoomyIn : ℕ → Scratch → Type 0
+RoomyIn n s = Roomy n s.marks.now s.depths.now s.queue.now s.queue_depths.now
+
+-- the columns came back with their room, marks and depths zero
+pub record GivenBack (first last : Scratch) : Type 0 where
+  pub same : SameColumns first last
+  pub marks_zero : last.marks.now ≡ zeros (length first.marks.now)
+  pub depths_zero : last.depths.now ≡ zeros (length first.depths.now)
+  pub queue_room : length last.queue.now ≡ length first.queue.now
+  pub queue_depths_room : length last.queue_depths.now ≡ length first.queue_depths.now

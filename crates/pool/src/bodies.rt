@@ -1,15 +1,15 @@
 // The bodies of a program, one after the other, over scratch that is zero before each and after each: weight, peak offset and callees of each.
 ghost use Rattle.std.specs.Prelude.{◌≡◌, ◌+◌, ◌*◌, ◌≤◌, ◌<◌, length};
 ghost use Rattle.cells.specs.Zeros.{zeros};
-ghost use Rattle.pool.specs.Plain.{PlainGoesOn};
-ghost use Rattle.pool.specs.Columns.{Walks, Cleared, Roomy, Blank, Lays};
-ghost use Rattle.pool.specs.Stated.{body_in, walk_in};
+ghost use Rattle.pool.specs.Columns.{Walks, Blank, Lays};
+ghost use Rattle.pool.specs.Stated.{body_in, walk_in, ClearedIn, RoomyIn, GivenBack};
 ghost use Rattle.pool.specs.Usages.{Found};
 
 use crate::Fault;
+use crate::temp_rules::TempRules;
 use crate::walk::walk;
 use buffers::{Unwalked, Usage};
-use callees::Sources;
+use program::Scratch;
 
 // Decoded, then walked, over scratch of the body's size.
 fn run(
@@ -18,80 +18,60 @@ fn run(
     places: &mut [u16],
     carried: &mut [u16],
     row: &mut [u8],
-    sizes: &[u8; 256],
-    sources: &Sources<'_>,
+    rules: &TempRules<'_>,
     body: &[u8],
 ) -> Result<Usage, Unwalked>
     requires marks_value { (marks.old ≡ zeros (length body.now)) × ((numbers.old ≡ zeros (length body.now + 1)) × ((length places.old ≡ 2 * length body.now + 2) × ((length carried.old ≡ 2 * length body.now + 2) × (row.old ≡ zeros 128)))) }
-    requires plain_goes_on { PlainGoesOn sources.now.words.now × ((length body.now ≤ 65535) × (sources.now.program.pool < 65535)) }
-    ensures { Walks result row.new (body_in sizes.now sources.now body.now) }
+    requires body_len_bound { length body.now ≤ 65535 }
+    ensures { Walks result row.new (body_in rules.now.sizes.now rules.now.sources body.now) }
 {
-    flow::starts::mark_starts(marks, sizes, body)?;
+    flow::starts::mark_starts(marks, rules.sizes, body)?;
     numbers[0] = 1;
-    walk(numbers, places, carried, row, sources, marks, body)
+    walk(numbers, places, carried, row, rules, marks, body)
 }
 
-// One body, over the front of the scratch. Its marks and numbers are cleared; the queue holds anything.
+// One body, over the front of the scratch: its depths are the walk's numbers, its queue columns the places and what is carried there. What was used
+// of marks and depths is cleared; the queue holds anything.
 fn one(
-    marks: &mut [u8],
-    numbers: &mut [u32],
-    places: &mut [u16],
-    carried: &mut [u16],
+    scratch: &mut Scratch<'_>,
     row: &mut [u8],
-    sizes: &[u8; 256],
-    sources: &Sources<'_>,
+    rules: &TempRules<'_>,
     body: &[u8],
 ) -> Result<Usage, Unwalked>
-    requires cleared { Cleared marks.old numbers.old × (Roomy (length body.now) marks.old numbers.old places.old carried.old × (row.old ≡ zeros 128)) }
-    requires plain_goes_on { PlainGoesOn sources.now.words.now × (sources.now.program.pool < 65535) }
-    ensures { Walks result row.new (body_in sizes.now sources.now body.now) × ((marks.new ≡ zeros (length marks.old)) × (numbers.new ≡ zeros (length numbers.old))) }
+    requires { ClearedIn scratch.old × (RoomyIn (length body.now) scratch.old × (row.old ≡ zeros 128)) }
+    ensures { Walks result row.new (body_in rules.now.sizes.now rules.now.sources body.now) × GivenBack scratch.old scratch.new }
 {
     let n = body.len();
     let e = n + 1;
     let q = 2 * n + 2;
     let used = run(
-        &mut marks[..n],
-        &mut numbers[..e],
-        &mut places[..q],
-        &mut carried[..q],
+        &mut scratch.marks[..n],
+        &mut scratch.depths[..e],
+        &mut scratch.queue[..q],
+        &mut scratch.queue_depths[..q],
         row,
-        sizes,
-        sources,
+        rules,
         body,
     );
-    cells::clear(&mut marks[..n]);
-    cells::clear(&mut numbers[..e]);
+    cells::clear(&mut scratch.marks[..n]);
+    cells::clear(&mut scratch.depths[..e]);
     used
 }
 
 // The body of the function at a row, with its row of the callee cells.
 fn at_row(
-    marks: &mut [u8],
-    numbers: &mut [u32],
-    places: &mut [u16],
-    carried: &mut [u16],
+    scratch: &mut Scratch<'_>,
     cells: &mut [u8],
-    sizes: &[u8; 256],
-    sources: &Sources<'_>,
+    rules: &TempRules<'_>,
     body: &[u8],
     row: usize,
 ) -> Result<Usage, Unwalked>
-    requires cleared { Cleared marks.old numbers.old × (Roomy (length body.now) marks.old numbers.old places.old carried.old × Blank row cells.old) }
-    requires plain_goes_on { PlainGoesOn sources.now.words.now × (sources.now.program.pool < 65535) }
-    ensures { Lays result (row * 128) cells.old cells.new (body_in sizes.now sources.now body.now) × ((marks.new ≡ zeros (length marks.old)) × (numbers.new ≡ zeros (length numbers.old))) }
+    requires { ClearedIn scratch.old × (RoomyIn (length body.now) scratch.old × Blank row cells.old) }
+    ensures { Lays result (row * 128) cells.old cells.new (body_in rules.now.sizes.now rules.now.sources body.now) × GivenBack scratch.old scratch.new }
 {
     let at = row * 128;
     let end = at + 128;
-    one(
-        marks,
-        numbers,
-        places,
-        carried,
-        &mut cells[at..end],
-        sizes,
-        sources,
-        body,
-    )
+    one(scratch, &mut cells[at..end], rules, body)
 }
 
 // The weight and the peak offset of each function, by its row.
@@ -103,21 +83,17 @@ pub struct Usages {
 
 // Functions in directory order: the first whose walk gives 22 or 23 ends the call.
 pub(crate) fn all(
-    marks: &mut [u8],
-    numbers: &mut [u32],
-    places: &mut [u16],
-    carried: &mut [u16],
+    scratch: &mut Scratch<'_>,
     cells: &mut [u8],
-    sizes: &[u8; 256],
-    sources: &Sources<'_>,
+    rules: &TempRules<'_>,
 ) -> Result<Usages, Fault>
-    requires cleared { Cleared marks.old numbers.old × (Roomy (length sources.now.program.program.code.now) marks.old numbers.old places.old carried.old × ((16384 ≤ length cells.old) × (cells.old ≡ zeros (length cells.old)))) }
-    requires plain_goes_on { PlainGoesOn sources.now.words.now × ((sources.now.program.pool < 65535) × (length sources.now.program.program.functions.ids.now ≤ 128)) }
-    ensures found { Found result cells.new (walk_in sizes.now sources.now) sources.now.program.program.functions.ids.now }
-    ensures marks_after { (marks.new ≡ zeros (length marks.old)) × (numbers.new ≡ zeros (length numbers.old)) }
+    requires cleared { ClearedIn scratch.old × (RoomyIn (length rules.now.sources.program.program.code.now) scratch.old × ((16384 ≤ length cells.old) × (cells.old ≡ zeros (length cells.old)))) }
+    requires functions_limit { length rules.now.sources.program.program.functions.ids.now ≤ 128 }
+    ensures found { Found result cells.new (walk_in rules.now.sizes.now rules.now.sources) rules.now.sources.program.program.functions.ids.now }
+    ensures given_back { GivenBack scratch.old scratch.new }
 {
-    let functions = &sources.program.program.functions;
-    let code = sources.program.program.code;
+    let functions = &rules.sources.program.program.functions;
+    let code = rules.sources.program.program.code;
     let mut weights = [0u16; 128];
     let mut peaks = [0usize; 128];
     for row in 0..functions.ids.len() {
@@ -126,9 +102,7 @@ pub(crate) fn all(
             cells::at(functions.offsets, row),
             cells::at(functions.lengths, row),
         );
-        let used = at_row(
-            marks, numbers, places, carried, cells, sizes, sources, body, row,
-        );
+        let used = at_row(scratch, cells, rules, body, row);
         match used {
             Ok(usage) => {
                 weights[row] = usage.weight as u16;

@@ -4,12 +4,12 @@
 
 mod bodies;
 mod ring;
+mod temp_rules;
 mod tread;
 mod walk;
 
 ghost use Rattle.std.specs.Prelude.{◌≡◌, length};
 ghost use Rattle.cells.specs.Zeros.{ZeroAfter};
-ghost use Rattle.program.specs.Refusals.{room_of};
 ghost use Rattle.program.specs.Stated.{pool_program_in, room_in, SameColumns};
 ghost use Rattle.program.specs.Taken.{PoolTaken};
 ghost use Rattle.pool.specs.declared.Fault.TheVariants.{Refused};
@@ -22,6 +22,7 @@ use bodies::Usages;
 use buffers::Unwalked;
 use callees::Sources;
 use program::{PoolProgram, Refusal, Scratch};
+use temp_rules::TempRules;
 use visit::Overrun;
 
 // Why the call does not accept: the input refused, 20 with the function that closed above the pool and its peak offset, 21, 22 or 23.
@@ -91,18 +92,16 @@ fn judged(
 
 // The program of an input that is not refused, over scratch that may hold anything: all of it is cleared once.
 fn checked(
-    marks: &mut [u8],
-    depths: &mut [u32],
-    queue: &mut [u16],
-    queue_depths: &mut [u16],
+    scratch: &mut Scratch<'_>,
     cells: &mut [u8],
     program: &PoolProgram<'_>,
 ) -> Result<(), Fault>
-    requires { PoolTaken (pool_program_in program.now) (room_of (length marks.old) (length depths.old) (length queue.old) (length queue_depths.old)) (length cells.old) }
+    requires { PoolTaken (pool_program_in program.now) (room_in scratch.old) (length cells.old) }
     ensures value { result ≡ taken_answer (pool_program_in program.now) }
-    ensures zero_after { ZeroAfter marks.old marks.new × (ZeroAfter depths.old depths.new × (ZeroAfter queue.old queue.new × (ZeroAfter queue_depths.old queue_depths.new × ZeroAfter cells.old cells.new))) }
+    ensures zero_after { ZeroAfter scratch.old.marks.now scratch.new.marks.now × (ZeroAfter scratch.old.depths.now scratch.new.depths.now × (ZeroAfter scratch.old.queue.now scratch.new.queue.now × (ZeroAfter scratch.old.queue_depths.now scratch.new.queue_depths.now × ZeroAfter cells.old cells.new))) }
+    ensures same { SameColumns scratch.old scratch.new }
 {
-    prove!(program.pool < 65535); // 35 has been tested, so that a weight past the pool is a number of 16 bits
+    prove!(program.pool < 65535); // 35 has been tested
     let sizes = tables::sizes();
     let words = tables::words();
     let mut hints = [0u16; 8192];
@@ -111,18 +110,22 @@ fn checked(
         program.program.list.ids,
         program.program.code.len(),
     );
-    cells::clear(marks);
-    cells::clear(depths);
+    cells::clear(scratch.marks);
+    cells::clear(scratch.depths);
     cells::clear(cells);
     let sources = Sources {
         words: &words,
         hints: &hints,
         program: *program,
     };
-    let usages = bodies::all(marks, depths, queue, queue_depths, cells, &sizes, &sources);
+    let rules = TempRules {
+        sizes: &sizes,
+        sources,
+    };
+    let usages = bodies::all(scratch, cells, &rules);
     let verdict = judged(cells, usages, program);
-    cells::clear(queue);
-    cells::clear(queue_depths);
+    cells::clear(scratch.queue);
+    cells::clear(scratch.queue_depths);
     cells::clear(cells);
     verdict
 }
@@ -138,14 +141,7 @@ pub fn pool_check(
     ensures same { SameColumns scratch.old scratch.new }
 {
     program::pool_input(program, scratch.room(), cells.len())?;
-    checked(
-        scratch.marks,
-        scratch.depths,
-        scratch.queue,
-        scratch.queue_depths,
-        cells,
-        program,
-    )
+    checked(scratch, cells, program)
 }
 
 // 01's number and values of an answer.

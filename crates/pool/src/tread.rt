@@ -2,11 +2,10 @@
 ghost use Rattle.std.specs.Prelude.{◌≡◌, ◌≤◌, ◌<◌, length};
 ghost use Rattle.flow.specs.Decode.{flow_of};
 ghost use Rattle.buffers.specs.Tread.{sum_past, flowing, bounded};
-ghost use Rattle.pool.specs.Plain.{PlainGoesOn};
 ghost use Rattle.pool.specs.Stated.{rule_in};
 
+use crate::temp_rules::TempRules;
 use buffers::{Tread, Way};
-use callees::Sources;
 use flow::Flow;
 use tables::TempEffect;
 
@@ -54,15 +53,14 @@ fn flows(marks: &[u8], operands: &[u8], end: usize, next: usize, op: u8) -> Way
 
 // An instruction at an offset of the body, with so many buffers held.
 pub(crate) fn tread(
-    sources: &Sources<'_>,
+    rules: &TempRules<'_>,
     marks: &[u8],
     body: &[u8],
     offset: usize,
     held: u32,
 ) -> Tread
-    requires plain_goes_on { PlainGoesOn sources.now.words.now }
     requires body_len_bound { (length body.now ≤ 65535) × (held < 65536) }
-    ensures { result ≡ rule_in sources.now marks.now body.now offset held }
+    ensures { result ≡ rule_in rules.now.sources marks.now body.now offset held }
 {
     if body.len() <= offset {
         return Tread {
@@ -74,6 +72,7 @@ pub(crate) fn tread(
     let op = body[offset];
     let size = cells::at(marks, offset);
     let next = offset + size as usize;
+    let sources = &rules.sources;
     let pool = sources.program.pool;
     if tables::plain_in(sources.words, op) {
         let sum = summed(tables::temp_in(sources.words, op), held);

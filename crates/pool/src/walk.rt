@@ -4,14 +4,13 @@ ghost use Rattle.std.specs.Prelude.{◌≡◌, cond, ltb, ◌+◌, ◌*◌, ◌�
 ghost use Rattle.cells.specs.Zeros.{zeros};
 ghost use Rattle.buffers.specs.Tread.{Leads};
 ghost use Rattle.buffers.specs.Walk.{follow, noted, begun, walk_of};
-ghost use Rattle.pool.specs.Plain.{PlainGoesOn};
 ghost use Rattle.pool.specs.Columns.{Turns, Listed, Walks, Fitting};
 ghost use Rattle.pool.specs.Stated.{rule_in, queue_in, ReadyIn, SameRoom};
 
 use crate::ring::{Ring, Waiting};
+use crate::temp_rules::TempRules;
 use crate::tread::tread;
 use buffers::{Unwalked, Usage, Way};
-use callees::Sources;
 
 // What follows from a tread: the offset to go on with at once, or the queue. The only successor while nothing waits goes on at once: joining the
 // queue and leaving it again would give the same.
@@ -76,13 +75,13 @@ pub(crate) fn walk(
     places: &mut [u16],
     carried: &mut [u16],
     row: &mut [u8],
-    sources: &Sources<'_>,
+    rules: &TempRules<'_>,
     marks: &[u8],
     body: &[u8],
 ) -> Result<Usage, Unwalked>
     requires numbers_value { (numbers.old ≡ begun (length body.now + 1)) × ((length places.old ≡ 2 * length body.now + 2) × ((length carried.old ≡ 2 * length body.now + 2) × (row.old ≡ zeros 128))) }
-    requires plain_goes_on { PlainGoesOn sources.now.words.now × (Fitting marks.now body.now × ((length body.now ≤ 65535) × (sources.now.program.pool < 65535))) }
-    ensures { Walks result row.new (walk_of (rule_in sources.now marks.now body.now) (2 * length body.now + 2) sources.now.program.pool (length body.now + 1)) }
+    requires fitting { Fitting marks.now body.now × (length body.now ≤ 65535) }
+    ensures { Walks result row.new (walk_of (rule_in rules.now.sources marks.now body.now) (2 * length body.now + 2) rules.now.sources.program.pool (length body.now + 1)) }
 {
     let mut ring = Ring {
         places,
@@ -95,7 +94,7 @@ pub(crate) fn walk(
     let mut peak: usize = 0;
     let mut met: usize = 0;
     loop {
-        let step = tread(sources, marks, body, entry.offset, entry.held);
+        let step = tread(rules, marks, body, entry.offset, entry.held);
         met = note(row, met, step.opens);
         let sum = step.sum;
         peak = peak_with(weight, sum, peak, entry.offset);

@@ -1,6 +1,7 @@
 -- The stack call accepts exactly if the input is not refused, every body decodes to its end and in each one depth per reachable offset satisfies
 -- every rule. Each body by the walk's own theorem, over any sizes and effects; the directory row by row.
 -- Assumes nothing.
+use Rattle.flow.specs.declared.starts.Stop.{Stop}
 use Rattle.std.specs.Prelude.{Ok, Err}
 use Prim.Native.Nat.{ℕ, zero, suc, ◌+◌, ◌≤◌, ◌<◌}
 use native.Mathlib.Omega.{arith}
@@ -38,7 +39,8 @@ module _ (sizes : ℕ → ℕ) (known : Effects) (body : List ℕ) (maximum : �
 
   whole_by : (d : Decoded) (w : Walked) → on_decoded d w ≡ Ok tt → (d ≡ (Ok tt)) × (w ≡ Ok tt)
   whole_by (Ok _) w e = (refl, e)
-  whole_by (Err stop) w e = absurd (let z : ◌≡◌ {A = ℕ} 0 1 = cc in omega arith)
+  whole_by (Err (Stop.Unknown offset byte)) w e = absurd (let z : ◌≡◌ {A = ℕ} 0 1 = cc in omega arith)
+  whole_by (Err (Stop.Truncated offset opcode)) w e = absurd (let z : ◌≡◌ {A = ℕ} 0 1 = cc in omega arith)
 
   pub body_sound : body_answer sizes known body maximum ≡ Ok tt → Balanced sizes known body maximum
   unfolding body_answer

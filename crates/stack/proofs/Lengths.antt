@@ -1,7 +1,7 @@
 -- What the stack call leaves of a lent column is as long as the column was: all zero, or the column itself.
 -- Assumes nothing.
 use Rattle.std.specs.Prelude.{ℕ, ◌≡◌, refl, List, length, Ok, Err}
-use Rattle.cells.specs.Zeros.{zeros, length_zeros}
+use Rattle.cells.specs.Zeros.{length_zeros}
 use Rattle.stack.specs.declared.Fault.{Fault}
 use Rattle.stack.specs.Stack.{Verdict, scratch_after}
 

@@ -18,8 +18,8 @@ use Rattle.rules.specs.Walk.{stop, go, put}
 use Rattle.rules.proofs.Bound.{look_bounded}
 use Rattle.rules.proofs.Counting.{count_room, count_set}
 use Rattle.rules.proofs.Queue.{put_new, put_same, put_clash}
-use Rattle.stack.specs.declared.walk.Meeting.{Meeting}
-use Rattle.stack.specs.declared.walk.Turn.{Turn}
+use Rattle.stack.specs.declared.queue.Meeting.{Meeting}
+use Rattle.stack.specs.declared.queue.Turn.{Turn}
 use Rattle.stack.specs.Columns.{meet_of, Ready, Puts, Turns, Fitting}
 
 -- what each meeting says of the depth on record, and of the definition
@@ -50,6 +50,12 @@ module _ (d q : List ℕ) (tail to out : ℕ) (ready : Ready d q tail) (within :
       let n = length-set d to (out + 1) in
       record { small = omega (arith, ready); room = omega (arith, ready); counted = omega (arith, ready) }
 
+  -- before it joins
+  pub ready_still : get_or d to 0 ≡ 0 → Ready (set d to (out + 1)) q tail
+  ready_still e =
+      let r = ready_on e in
+      record { small = r.small; room = r.room; counted = omega (arith, r) }
+
   pub put_joins : get_or d to 0 ≡ 0 → Puts tail (Ok (tail + 1)) (set d to (out + 1)) (set q tail to) (put d (take tail q) to out)
   put_joins e =
       let t : take (tail + 1) (set q tail to) ≡ take tail q ++ (to ∷ []) = ap (λ (n : ℕ). take n (set q tail to)) (add-one tail) ∙ take-suc-set q tail to (room e) in
@@ -63,8 +69,7 @@ module _ (d q : List ℕ) (tail to out : ℕ) (ready : Ready d q tail) (within :
   -- a single successor of an empty queue
   pub put_on : out < 65536 → get_or d to 0 ≡ 0 → Turns true tail q (Ok (Turn.On to out)) (set d to (out + 1)) q (put d (take tail q) to out)
   put_on small e =
-      let r = ready_on e in
-      (refl, (put_new d (take tail q) to out e, (refl, (get_or-set_same d to (out + 1) 0 within, (small, record { small = r.small; room = r.room; counted = omega (arith, r) })))))
+      (refl, (put_new d (take tail q) to out e, (refl, (get_or-set_same d to (out + 1) 0 within, (small, ready_still e)))))
 
 -- a wider bound on depths
 bounded_le : (n x y : ℕ) (seen : Look) → x ≤ y → Bounded n x seen → Bounded n y seen

@@ -13,12 +13,11 @@ use Rattle.rules.specs.Walk.{stop, go, follow, walk_from, begun, walk_of}
 use Rattle.rules.proofs.Counting.{count_le, length_begun, count_begun, begun_first}
 use Rattle.rules.proofs.Queue.{loop_stop, loop_go, loop_empty, loop_on, walk_over, walk_begun}
 use Rattle.rules.specs.Look.{Look}
-use Rattle.stack.specs.declared.walk.Turn.{Turn}
+use Rattle.stack.specs.declared.queue.Turn.{Turn}
 use Rattle.stack.specs.Columns.{Ready, Turns}
 
-pub record Walking (rule : ℕ → ℕ → Look) (n : ℕ) (first depths queue : List ℕ) (head tail offset depth left : ℕ) : Type 0 where
+pub record Walking (rule : ℕ → ℕ → Look) (n : ℕ) (depths queue : List ℕ) (head tail offset depth left : ℕ) : Type 0 where
   pub long : length depths ≡ n
-  pub same : length queue ≡ length first
   pub ready : Ready depths queue tail
   pub behind : head ≤ tail
   pub deep : depth ≡ get_or depths offset 0 - 1
@@ -28,22 +27,20 @@ pub record Walking (rule : ℕ → ℕ → Look) (n : ℕ) (first depths queue :
 pub tail_in : (depths queue : List ℕ) (tail : ℕ) → Ready depths queue tail → tail < length queue
 tail_in depths queue tail r = let l = count_le depths in omega (arith, r)
 
-pub walking_first : (rule : ℕ → ℕ → Look) (n : ℕ) (depths queue : List ℕ) → depths ≡ begun n → 0 < n → n ≤ length queue → n ≤ 65536 → Walking rule n queue depths queue 0 0 0 0 n
-walking_first rule n depths queue e p l s =
+pub walking_first : (rule : ℕ → ℕ → Look) (n : ℕ) (depths queue : List ℕ) (tail : ℕ) → depths ≡ begun n → tail ≡ 0 → 0 < n → Ready depths queue tail → Walking rule n depths queue 0 tail 0 0 n
+walking_first rule n depths queue tail e z p r =
     let k = length_begun n in
-    let c = count_begun n p in
     let b = begun_first n p in
-    rw e (record {
-      long = k;
-      same = refl;
-      ready = record { small = omega arith; room = omega arith; counted = omega arith };
+    record {
+      long = rw e k;
+      ready = r;
       behind = omega arith;
-      deep = omega arith;
+      deep = rw e (omega (arith, b));
       small = omega arith;
-      goes_on = walk_begun rule n;
-    })
+      goes_on = rw (e, z) (walk_begun rule n);
+    }
 
-module _ (rule : ℕ → ℕ → Look) (n : ℕ) (first depths queue : List ℕ) (head tail offset depth left : ℕ) (w : Walking rule n first depths queue head tail offset depth left) where
+module _ (rule : ℕ → ℕ → Look) (n : ℕ) (depths queue : List ℕ) (head tail offset depth left : ℕ) (w : Walking rule n depths queue head tail offset depth left) where
   room : tail ≤ length queue
   room = let l = tail_in depths queue tail w.ready in omega arith
 
@@ -55,19 +52,18 @@ module _ (rule : ℕ → ℕ → Look) (n : ℕ) (first depths queue : List ℕ)
     pub walking_stop : (v : Violation) → follow depths (take tail queue) (rule offset depth) ≡ stop v → Err v ≡ walk_of rule n
     walking_stop v e = sym (loop_stop rule depths queue offset depth head tail (rule offset depth) w.deep refl w.behind room left v more e) ∙ w.goes_on
 
-    module _ (end : ℕ) (long : length d ≡ length depths) (kept : length q ≡ length queue) (turn : Turns (true) tail queue (Ok (Turn.Go end)) d q (follow depths (take tail queue) (rule offset depth))) where
+    module _ (end : ℕ) (long : length d ≡ length depths) (turn : Turns (true) tail queue (Ok (Turn.Go end)) d q (follow depths (take tail queue) (rule offset depth))) where
       pub walking_empty : end ≤ head → Ok tt ≡ walk_of rule n
       walking_empty h =
           let l = tail_in d q end turn.1.0 in
           sym (loop_empty rule depths queue offset depth head tail (rule offset depth) w.deep refl w.behind room left d q end more turn.0 h (omega arith)) ∙ w.goes_on
 
-      pub walking_go : (to out : ℕ) → head < end → to ≡ get_or q head 0 → out ≡ get_or d to 0 - 1 → out < 4294967296 → Walking rule n first d q (head + 1) end to out (left - 1)
+      pub walking_go : (to out : ℕ) → head < end → to ≡ get_or q head 0 → out ≡ get_or d to 0 - 1 → out < 4294967296 → Walking rule n d q (head + 1) end to out (left - 1)
       walking_go to out h e o s =
           let l = tail_in d q end turn.1.0 in
           let g = loop_go rule depths queue offset depth head tail (rule offset depth) w.deep refl w.behind room left d q end more turn.0 h (omega arith) in
           record {
             long = long ∙ w.long;
-            same = kept ∙ w.same;
             ready = turn.1.0;
             behind = omega arith;
             deep = o;
@@ -75,16 +71,22 @@ module _ (rule : ℕ → ℕ → Look) (n : ℕ) (first depths queue : List ℕ)
             goes_on = ap (λ (k : ℕ). walk_from rule (left - 1) d (k ∷ drop (head + 1) (take end q))) e ∙ sym g ∙ w.goes_on;
           }
 
-    pub walking_on : (to out : ℕ) → length d ≡ length depths → head ≡ tail → Turns true tail queue (Ok (Turn.On to out)) d q (follow depths (take tail queue) (rule offset depth)) → Walking rule n first d q head tail to out (left - 1)
+    pub walking_on : (to out : ℕ) → length d ≡ length depths → head ≡ tail → Turns true tail queue (Ok (Turn.On to out)) d q (follow depths (take tail queue) (rule offset depth)) → Walking rule n d q head tail to out (left - 1)
     walking_on to out long h turn =
         let t = turn.1 in
         let g = loop_on rule depths queue offset depth head tail (rule offset depth) w.deep refl w.behind room left d to more h (t.0 ∙ ap (λ (u : List ℕ). go d (take tail u ++ (to ∷ []))) t.1.0) in
         record {
           long = long ∙ w.long;
-          same = ap length t.1.0 ∙ w.same;
           ready = t.1.1.1.1;
           behind = w.behind;
           deep = omega (arith, t.1.1.0);
           small = omega (arith, t.1.1.1.0);
           goes_on = ap (λ (u : List ℕ). walk_from rule (left - 1) d (to ∷ drop head (take tail u))) t.1.0 ∙ sym g ∙ w.goes_on;
         }
+
+-- the columns that a walk begins with
+pub begins_ready : (depths queue : List ℕ) (n : ℕ) → depths ≡ begun n → 0 < n → n ≤ length queue → n ≤ 65536 → Ready depths queue 0
+begins_ready depths queue n e p l s =
+    let k = length_begun n in
+    let c = count_begun n p in
+    rw e (record { small = omega arith; room = omega arith; counted = omega arith })

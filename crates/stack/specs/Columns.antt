@@ -5,8 +5,8 @@ use Rattle.std.specs.Prelude.{ℕ, ◌+◌, ◌-◌, ◌≤◌, ◌<◌, ◌≡�
 use Rattle.cells.specs.Zeros.{zeros}
 use Rattle.rules.specs.declared.Violation.{Violation}
 use Rattle.rules.specs.Walk.{Outcome, stop, go, count}
-use Rattle.stack.specs.declared.walk.Meeting.{Meeting}
-use Rattle.stack.specs.declared.walk.Turn.{Turn}
+use Rattle.stack.specs.declared.queue.Meeting.{Meeting}
+use Rattle.stack.specs.declared.queue.Turn.{Turn}
 
 -- how a successor stands to its depth
 unfoldable pub meet_of : List ℕ → ℕ → ℕ → Result Meeting Violation

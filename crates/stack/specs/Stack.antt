@@ -7,7 +7,8 @@ use Rattle.flow.specs.Walk.{walk_by, end_of, marks_of, Decoded}
 use Rattle.program.specs.declared.Room.{Room}
 use Rattle.program.specs.Program.{Program, body_of}
 use Rattle.program.specs.Refusals.{stack_input, Input}
-use Rattle.rules.specs.Stops.{of_stop}
+use Rattle.flow.specs.declared.starts.Stop.{Stop}
+use Rattle.rules.specs.declared.Violation.{Violation}
 use Rattle.rules.specs.Look.{Effects, look_of}
 use Rattle.rules.specs.Walk.{walk_of, Walked}
 use Rattle.effects.specs.Effects.{known_of}
@@ -22,7 +23,8 @@ Verdict = Result (Unit {0}) Fault
 -- decode the whole body first (1, 2)
 abbrev pub on_decoded : Decoded → Walked → Walked
 on_decoded (Ok _) walked = walked
-on_decoded (Err stop) walked = Err (of_stop stop)
+on_decoded (Err (Stop.Unknown offset byte)) walked = Err (Violation.UnknownOpcode offset byte)
+on_decoded (Err (Stop.Truncated offset opcode)) walked = Err (Violation.TruncatedInstruction offset opcode)
 
 -- then a first-in first-out queue from offset 0 at depth 0
 unfoldable pub body_answer : (ℕ → ℕ) → Effects → List ℕ → ℕ → Walked

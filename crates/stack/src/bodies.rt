@@ -2,15 +2,14 @@
 ghost use Rattle.std.specs.Prelude.{◌≡◌, ◌+◌, ◌≤◌, length};
 ghost use Rattle.cells.specs.Zeros.{zeros};
 ghost use Rattle.tables.specs.Packed.{size_in};
-ghost use Rattle.tables.specs.Stored.{GoesOn};
 ghost use Rattle.program.specs.Stated.{program_in};
 ghost use Rattle.effects.specs.Stated.{known_in};
 ghost use Rattle.stack.specs.Columns.{Cleared, Roomy};
 ghost use Rattle.stack.specs.Stack.{body_answer, functions_answer};
 
 use crate::Fault;
+use crate::program_rules::Rules;
 use crate::walk::walk;
-use effects::Sources;
 use rules::Violation;
 
 // Both phases, over scratch of the body's size.
@@ -20,17 +19,16 @@ fn run(
     depths: &mut [u32],
     queue: &mut [u16],
     sizes: &[u8; 256],
-    sources: &Sources<'_>,
+    rules: &Rules<'_>,
     body: &[u8],
     maximum: u16,
 ) -> Result<(), Violation>
     requires marks_value { (marks.old ≡ zeros (length body.now)) × ((depths.old ≡ zeros (length body.now + 1)) × ((length body.now + 1 ≤ length queue.old) × (length body.now ≤ 65535))) }
-    requires goes_on { GoesOn sources.now.words.now }
-    ensures { result ≡ body_answer (size_in sizes.now) (known_in sources.now) body.now maximum }
+    ensures { result ≡ body_answer (size_in sizes.now) (known_in rules.now.sources) body.now maximum }
 {
     flow::starts::mark_starts(marks, sizes, body)?;
     depths[0] = 1;
-    walk(depths, queue, sources, marks, body, maximum)
+    walk(depths, queue, rules, marks, body, maximum)
 }
 
 // One body, over the front of the scratch. What it used is cleared; the queue holds anything.
@@ -40,13 +38,12 @@ fn one(
     depths: &mut [u32],
     queue: &mut [u16],
     sizes: &[u8; 256],
-    sources: &Sources<'_>,
+    rules: &Rules<'_>,
     body: &[u8],
     maximum: u16,
 ) -> Result<(), Violation>
     requires cleared { Cleared marks.old depths.old × Roomy (length body.now) marks.old depths.old queue.old }
-    requires goes_on { GoesOn sources.now.words.now }
-    ensures { (result ≡ body_answer (size_in sizes.now) (known_in sources.now) body.now maximum) × ((marks.new ≡ zeros (length marks.old)) × (depths.new ≡ zeros (length depths.old))) }
+    ensures { (result ≡ body_answer (size_in sizes.now) (known_in rules.now.sources) body.now maximum) × ((marks.new ≡ zeros (length marks.old)) × (depths.new ≡ zeros (length depths.old))) }
 {
     let n = body.len();
     let e = n + 1;
@@ -55,7 +52,7 @@ fn one(
         &mut depths[..e],
         queue,
         sizes,
-        sources,
+        rules,
         body,
         maximum,
     );
@@ -71,21 +68,20 @@ pub(crate) fn all(
     depths: &mut [u32],
     queue: &mut [u16],
     sizes: &[u8; 256],
-    sources: &Sources<'_>,
+    rules: &Rules<'_>,
 ) -> Result<(), Fault>
-    requires cleared { Cleared marks.old depths.old × Roomy (length sources.now.program.code.now) marks.old depths.old queue.old }
-    requires goes_on { GoesOn sources.now.words.now }
-    ensures { (result ≡ functions_answer (size_in sizes.now) (known_in sources.now) (program_in sources.now.program)) × ((marks.new ≡ zeros (length marks.old)) × (depths.new ≡ zeros (length depths.old))) }
+    requires cleared { Cleared marks.old depths.old × Roomy (length rules.now.sources.program.code.now) marks.old depths.old queue.old }
+    ensures { (result ≡ functions_answer (size_in sizes.now) (known_in rules.now.sources) (program_in rules.now.sources.program)) × ((marks.new ≡ zeros (length marks.old)) × (depths.new ≡ zeros (length depths.old))) }
 {
-    let functions = &sources.program.functions;
+    let functions = &rules.sources.program.functions;
     for row in 0..functions.ids.len() {
         let body = cells::part(
-            sources.program.code,
+            rules.sources.program.code,
             cells::at(functions.offsets, row),
             cells::at(functions.lengths, row),
         );
         let maximum = cells::at(functions.maxima, row);
-        if let Err(violation) = one(marks, depths, queue, sizes, sources, body, maximum) {
+        if let Err(violation) = one(marks, depths, queue, sizes, rules, body, maximum) {
             return Err(Fault::Violated {
                 function: functions.ids[row],
                 violation,

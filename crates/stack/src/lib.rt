@@ -4,6 +4,8 @@
 
 mod bodies;
 mod look;
+mod program_rules;
+mod queue;
 mod walk;
 
 ghost use Rattle.std.specs.Prelude.{◌≡◌, length};
@@ -16,6 +18,7 @@ ghost use Rattle.effects.specs.Effects.{known_of};
 ghost use Rattle.stack.specs.declared.Fault.{Fault};
 ghost use Rattle.stack.specs.Stack.{functions_answer, stack_answer, scratch_after, fields_of};
 
+use crate::program_rules::Rules;
 use answers::Fields;
 use effects::Sources;
 use program::{Program, Refusal, Scratch};
@@ -58,13 +61,15 @@ fn checked(
     codes::note_for(queue_depths, program.list.ids, program.code.len());
     cells::clear(marks);
     cells::clear(depths);
-    let sources = Sources {
-        words: &words,
-        hints: queue_depths,
-        given: &given,
-        program: *program,
+    let rules = Rules {
+        sources: Sources {
+            words: &words,
+            hints: queue_depths,
+            given: &given,
+            program: *program,
+        },
     };
-    let verdict = bodies::all(marks, depths, queue, &sizes, &sources);
+    let verdict = bodies::all(marks, depths, queue, &sizes, &rules);
     cells::clear(queue);
     cells::clear(queue_depths);
     verdict

@@ -1,11 +1,11 @@
 // 01's rules at one place, as code: one caller, the walk. The definition is rules' `look_of`.
 ghost use Rattle.std.specs.Prelude.{◌≡◌, ℕ, ◌≤◌, ◌<◌, length};
-ghost use Rattle.tables.specs.Stored.{GoesOn};
 ghost use Rattle.flow.specs.Decode.{flow_of, moved, target_of};
 ghost use Rattle.rules.specs.Look.{Look, larger, exit_at, unknown_at, flowing, moving, look_of};
 ghost use Rattle.effects.specs.Stated.{known_in};
 ghost use Rattle.stack.specs.Moves.{effect_at, on_moved, legal_of};
 
+use crate::program_rules::Rules;
 use effects::Sources;
 use flow::Flow;
 use rules::{Onward, Unknown, Violation};
@@ -129,17 +129,17 @@ fn flows(
 // The rules at an offset of the body at a depth. Most instructions have the table's effect and go on to the next: they are told apart first.
 #[tactic(auto, using(rules::proofs::Cases::look_end, crate::proofs::Looking::plain_look, crate::proofs::Looking::look_stops))]
 pub(crate) fn look(
-    sources: &Sources<'_>,
+    rules: &Rules<'_>,
     marks: &[u8],
     body: &[u8],
     maximum: u16,
     offset: usize,
     depth: u64,
 ) -> Result<Onward, Violation>
-    requires goes_on { GoesOn sources.now.words.now }
     requires body_len_bound { (length body.now ≤ 65535) × (depth < 4294967296) }
-    ensures { result ≡ look_of (known_in sources.now) marks.now body.now maximum offset depth }
+    ensures { result ≡ look_of (known_in rules.now.sources) marks.now body.now maximum offset depth }
 {
+    let sources = &rules.sources;
     if body.len() <= offset {
         return exit_at(offset, 0, depth);
     }

@@ -16,6 +16,34 @@ use Rattle.visit.specs.declared.Overrun.TheVariants.{Cycle, Over}
 use Rattle.visit.specs.Graph.{Graph, Among}
 use Rattle.visit.specs.Visit.{Visited, onward, if_open, if_known, callee_of, largest_of, sum_of, closes}
 
+-- 20 and 21
+pub data Failed : Visited → Type 0 where
+  cycled : {g : ℕ} → Failed (Err (Cycle g))
+  passed : {g t : ℕ} → Failed (Err (Over g t))
+
+-- an answer is one thing
+pub fine_is : {t u : ℕ} → ◌≡◌ {A = Visited} (Ok t) (Ok u) → t ≡ u
+fine_is e = cc
+
+pub fine_not_cycle : {A : Type 0} {g t : ℕ} → ◌≡◌ {A = Visited} (Ok t) (Err (Cycle g)) → A
+fine_not_cycle e = let z : ◌≡◌ {A = ℕ} 0 1 = cc in absurd (omega arith)
+
+pub fine_not_over : {A : Type 0} {g d t : ℕ} → ◌≡◌ {A = Visited} (Ok t) (Err (Over g d)) → A
+fine_not_over e = let z : ◌≡◌ {A = ℕ} 0 1 = cc in absurd (omega arith)
+
+pub cycle_not_over : {A : Type 0} {g x d : ℕ} → ◌≡◌ {A = Visited} (Err (Cycle g)) (Err (Over x d)) → A
+cycle_not_over e = let z : ◌≡◌ {A = ℕ} 0 1 = cc in absurd (omega arith)
+
+pub fine_not_failed : {A : Type 0} {v : Visited} {t : ℕ} → Failed v → Ok t ≡ v → A
+fine_not_failed cycled e = fine_not_cycle e
+fine_not_failed passed e = fine_not_over e
+
+-- a failure ends what comes after it
+pub onward_stops : (v : Visited) (next : ℕ → Visited) → Failed v → onward v next ≡ v
+unfolding onward
+onward_stops (Ok t) next h = fine_not_failed h refl
+onward_stops (Err o) next h = refl
+
 -- a total goes on
 pub onward_fine : (v : Visited) (next : ℕ → Visited) (t : ℕ) → onward v next ≡ Ok t → (b : ℕ) × (v ≡ Ok b) × (next b ≡ Ok t)
 unfolding onward

@@ -1,5 +1,5 @@
 -- `desk::check_file` meets its contract: the fronts of the local columns are the columns that the file states. Assumes nothing.
-use Rattle.std.proofs.Common.{◌≡◌, ◌∙◌, sym, ap}
+use Rattle.std.proofs.Common.{◌∙◌, ap}
 use Rattle.std.proofs.lemmas.Result.{err_from_is_err_and}
 use Rattle.desk.specs.Desk.{program_answer}
 use Rattle.desk.proofs.DeskLaws.{gave_refusal, gave_program}

@@ -4,8 +4,8 @@ use Rattle.program.specs.Stated.{pool_program_in}
 use Rattle.pool.proofs.Calling.{words_go_on, answer_is}
 use Rattle.pool.proofs.checked.Goals as goal
 
-pub all-usages-requires-clause-plain_goes_on : goal.all-usages-requires-clause-plain_goes_on
-all-usages-requires-clause-plain_goes_on c = (words_go_on _ c.words-words.ensures, (c.if-prove.false, c.requires.stack.functions_limit))
+pub invariant_of-rules : goal.invariant_of-rules
+invariant_of-rules c = record { goes_on = words_go_on _ c.words-words.ensures; pool_bounded = c.if-prove.false }
 
 pub returns-clause-value : goal.returns-clause-value
 returns-clause-value c = answer_is (pool_program_in c.args.program.now) _ c.requires.stack _ _ _ _ _ c.sizes-sizes.ensures c.words-words.ensures c.all-usages.ensures.found _ c.judged-verdict.ensures

@@ -18,8 +18,8 @@ bounds-numbers-0 c = omega (arith, length_zeros _ _ c.requires.marks_value.1.0)
 pub walk-requires-clause-numbers_value : goal.walk-requires-clause-numbers_value
 walk-requires-clause-numbers_value c = let p = c.requires.marks_value in (begins_walk _ _ p.1.0, p.1.1)
 
-pub walk-requires-clause-plain_goes_on : goal.walk-requires-clause-plain_goes_on
-walk-requires-clause-plain_goes_on c = let p = c.requires in (p.plain_goes_on.0, (marks_fitting _ c.args.body.now c.mark_starts.new.marks _ c.mark_starts.ensures.1 p.marks_value.0, p.plain_goes_on.1))
+pub walk-requires-clause-fitting : goal.walk-requires-clause-fitting
+walk-requires-clause-fitting c = let p = c.requires in (marks_fitting _ c.args.body.now c.mark_starts.new.marks _ c.mark_starts.ensures.1 p.marks_value.0, p.body_len_bound)
 
 pub returns : goal.returns
-returns c = let a = c.args in body_walks (size_in a.sizes.now) (temps_in a.sources.now) (opens_in a.sources.now) a.sources.now.program.pool a.body.now c.mark_starts.new.marks _ _ _ c.mark_starts.ensures.1 c.requires.marks_value.0 (sym c.in_ok-mark_starts.was ∙ c.mark_starts.ensures.0) c.walk.ensures
+returns c = let a = c.args in body_walks (size_in a.rules.now.sizes.now) (temps_in a.rules.now.sources) (opens_in a.rules.now.sources) a.rules.now.sources.program.pool a.body.now c.mark_starts.new.marks _ _ _ c.mark_starts.ensures.1 c.requires.marks_value.0 (sym c.in_ok-mark_starts.was ∙ c.mark_starts.ensures.0) c.walk.ensures

@@ -5,5 +5,5 @@ use native.Mathlib.Omega.{arith}
 use Rattle.stack.proofs.Putting.{look_fits}
 use Rattle.stack.proofs.walk.turn_at.Goals as goal
 
-pub follow_on-requires-clause-bounded : goal.follow_on-requires-clause-bounded
-follow_on-requires-clause-bounded c = look_fits _ c.args.marks.now c.args.body.now c.args.maximum _ _ _ _ c.requires.goes_on.1.0 c.requires.ready.1 (omega (arith, c.ranges.maximum.fits)) (sym c.in_ok-onward.was ∙ c.look.ensures)
+pub follow_on-requires : goal.follow_on-requires
+follow_on-requires c = look_fits _ c.args.marks.now c.args.body.now c.args.maximum _ _ _ _ c.requires.fits.0 c.requires.long (omega (arith, c.ranges.maximum.fits)) (sym c.in_ok-onward.was ∙ c.look.ensures)
