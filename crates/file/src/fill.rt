@@ -84,7 +84,12 @@ fn into_code(code: &mut [u8], file: &[u8], table: &Table)
 }
 
 #[tactic(auto, unfolding(crate::specs::Stated::laid_over, crate::specs::Measured::tables_from))]
-pub fn fill_columns(columns: &mut Columns<'_>, numbers: &Numbers, file: &[u8], layout: &Layout)
+pub(crate) fn fill_columns(
+    columns: &mut Columns<'_>,
+    numbers: &Numbers,
+    file: &[u8],
+    layout: &Layout,
+)
     requires { Ready file.now layout.now (columns_in columns.old) }
     ensures same { SameColumns columns.old columns.new }
     ensures filled { columns_in columns.new ≡ laid_over (tables_from numbers.now file.now layout.now) (columns_in columns.old) }

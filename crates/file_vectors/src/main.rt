@@ -12,7 +12,7 @@ use file::{Columns, Refused, Sizes};
 use std::io;
 
 // Two bytes, low byte first.
-pub fn word(script: &[u8], at: usize) -> u16
+pub(crate) fn word(script: &[u8], at: usize) -> u16
     requires { at + 1 < 18446744073709551616 }
 {
     u16::from_le_bytes([cells::at(script, at), cells::at(script, at + 1)])
@@ -23,7 +23,7 @@ fn mixed(sum: u64, value: u64) -> u64 {
 }
 
 // A sum that goes on over the cells of one more column.
-pub fn summed<I: Iterator<Item = u64> + Drop>(sum: u64, column: I) -> u64
+pub(crate) fn summed<I: Iterator<Item = u64> + Drop>(sum: u64, column: I) -> u64
     requires can { I.can_next column }
     requires ends { IsFinite (I.remaining column) }
 {

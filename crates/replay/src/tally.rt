@@ -17,7 +17,7 @@ impl Tally {
 
 // Counts the entries of a file: `entry` says of the place where one begins how long it is, and whether it is the same. One that has no length, or is
 // not all there, differs and ends the file.
-pub fn each<F: Fn(usize) -> (usize, bool)>(data: &[u8], entry: F) -> Tally
+pub(crate) fn each<F: Fn(usize) -> (usize, bool)>(data: &[u8], entry: F) -> Tally
     requires { F.IsAlwaysCallable entry }
 {
     let mut tally = Tally::default();
