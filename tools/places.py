@@ -47,8 +47,8 @@ def functions(text):
                 part += c
         if part.strip():
             parts.append(part.strip())
-        body = text.find("\n{", i)
-        yield line_of(text, m.start()), m.group(1), parts, text[m.start():body if body > 0 else i]
+        ends = [at for at in (text.find("\n{", i), text.find(" {\n", i), text.find(";\n", i)) if at > 0]
+        yield line_of(text, m.start()), m.group(1), parts, text[m.start():min(ends, default=i)]
 
 
 def enums(text):
