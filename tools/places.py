@@ -29,13 +29,19 @@ def line_of(text, at):
     return text.count("\n", 0, at) + 1
 
 
+def closed(text, at, pair):
+    """The place after the bracket that closes one which is open before a place."""
+    depth = 1
+    while depth:
+        depth += {pair[0]: 1, pair[1]: -1}.get(text[at], 0)
+        at += 1
+    return at
+
+
 def functions(text):
     """(line, name, parameters, head) of each function; the head ends at the body."""
     for m in re.finditer(r"\bfn (\w+)(?:<[^(]*>)?\(", text):
-        depth, i = 1, m.end()
-        while depth:
-            depth += {"(": 1, ")": -1}.get(text[i], 0)
-            i += 1
+        i = closed(text, m.end(), "()")
         inside = text[m.end():i - 1]
         parts, level, part = [], 0, ""
         for c in inside:
@@ -47,16 +53,13 @@ def functions(text):
                 part += c
         if part.strip():
             parts.append(part.strip())
-        body = text.find("\n{", i)
-        yield line_of(text, m.start()), m.group(1), parts, text[m.start():body if body > 0 else i]
+        ends = [at for at in (text.find("\n{", i), text.find(" {\n", i), text.find(";\n", i)) if at > 0]
+        yield line_of(text, m.start()), m.group(1), parts, text[m.start():min(ends, default=i)]
 
 
 def enums(text):
     for m in re.finditer(r"\benum (\w+)[^{]*\{", text):
-        depth, i = 1, m.end()
-        while depth:
-            depth += {"{": 1, "}": -1}.get(text[i], 0)
-            i += 1
+        i = closed(text, m.end(), "{}")
         variants = re.findall(r"^    (\w+)", text[m.end():i - 1], re.M) or re.findall(r"(\w+)", text[m.end():i - 1])
         yield line_of(text, m.start()), m.group(1), variants
 
