@@ -6,7 +6,7 @@
 ghost use Rattle.std.specs.Prelude.{◌≡◌};
 ghost use Rattle.buffers.specs.declared.Unwalked.TheVariants.{Undecodable};
 
-use flow::starts::Stop;
+use flow::Stop;
 
 // Where control goes: the path ends, a branch has no legal target, one successor, or the branch target and the next instruction.
 #[derive(Clone, Copy, PartialEq, Eq, Debug)]

@@ -49,7 +49,8 @@ fn later(middle: u16, id: u16, low: usize, half: usize) -> usize
     low + half * ((id as usize + 65536 - middle as usize) / 65536)
 }
 
-// The place of an id, by halving: every lookup in as many rows takes the same turns.
+// The place of an id, by halving: every lookup in as many rows takes the same turns. No `binary_search`: `halved_of` says what halving finds in any
+// columns, rising or not, and the library's search says where an id stands in rising ones.
 pub fn find(ids: &[u16], id: u16) -> Option<usize>
     ensures { result ≡ halved_of ids.now id }
 {

@@ -90,7 +90,7 @@ fn names_method(code: &[u8]) -> bool
 {
     let mut named = false;
     for byte in code {
-        named |= *byte == 0xF8;
+        named |= *byte == tables::METHOD_CALL;
     }
     named
 }

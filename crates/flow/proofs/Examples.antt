@@ -1,6 +1,6 @@
 -- Worked examples of the definitions, which antt computes: the bodies of 01's bench examples and two that decoding cuts, and 01's targets.
 -- Assumes nothing.
-use Rattle.flow.specs.declared.starts.Stop.{Stop}
+use Rattle.flow.specs.declared.Stop.{Stop}
 use Rattle.std.specs.Prelude.{ℕ, ◌≡◌, refl, List, [], ◌∷◌, length, replicate, Ok, Err}
 use Rattle.tables.specs.Set.{size_of, instruction_set}
 use Rattle.flow.specs.Decode.{step_by, moved, target_of}

@@ -1,17 +1,15 @@
 -- Where control can stand in a body that decodes to its end: offset 0, an instruction's next offset and a legal target are each a start or
 -- the length. A walk that is led by these never leaves the starts.
 -- Assumes nothing.
-use Rattle.std.specs.Prelude.{ℕ, zero, suc, ◌+◌, ◌≤◌, ◌<◌, ◌≡◌, refl, ◌⊎◌, Bool, true, false, cond, List, ltb, eqb, length, get_or, Ok, Err}
+use Rattle.std.specs.Prelude.{ℕ, zero, suc, ◌+◌, ◌≤◌, ◌<◌, ◌≡◌, refl, ◌⊎◌, Bool, true, false, cond, List, ltb, eqb, length, get_or, Ok, Err, Some, None}
 use Rattle.std.proofs.Common.{◌∙◌, ap, sym, subst, inl, inr, ⊎_elim, arith, eqb-true, ltb-false, eq-eqb, ne_eqb}
 use Rattle.std.proofs.lemmas.Bool.{eqb-false}
 use Rattle.tables.specs.Packed.{turns}
 use Rattle.tables.specs.Laws.{no_turn}
-use Rattle.flow.specs.declared.Step.{Step}
-use Rattle.flow.specs.declared.Step.TheVariants.{End, Unknown, Truncated, Instruction}
 use Rattle.flow.specs.declared.Flow.TheVariants.{Next, Jump, Branch, Return}
 use Rattle.flow.specs.declared.Spot.{Spot}
 use Rattle.flow.specs.declared.Spot.TheVariants.{At, Before}
-use Rattle.flow.specs.Decode.{step_by, word_at, flow_of, target_of}
+use Rattle.flow.specs.Decode.{Step, step_by, word_at, flow_of, target_of}
 use Rattle.cells.specs.Zeros.{zeros, length_zeros, any_zero}
 use Rattle.flow.specs.Walk.{instr, on_step, walk_in, walk_by, end_of, mark_all, marks_of, is_start}
 use Rattle.flow.proofs.Laws.{stands, end_only}
@@ -29,10 +27,9 @@ module _ (sizes : ℕ → ℕ) (body : List ℕ) where
   Here left at t = (is_start (walk_in left sizes body at) t ≡ true) ⊎ (t ≡ length body)
 
   first_on : (left at : ℕ) → at ≤ length body → (st : Step) → step_by sizes body at ≡ st → end_of (on_step at (walk_in left sizes body) st) ≡ (Ok tt) → (is_start (on_step at (walk_in left sizes body) st) at ≡ true) ⊎ (at ≡ length body)
-  first_on left at h End e d = inr (let l = end_only sizes body at e in omega arith)
-  first_on left at h (Unknown b) e d = absurd (let z : ◌≡◌ {A = ℕ} 0 1 = cc in omega arith)
-  first_on left at h (Truncated op) e d = absurd (let z : ◌≡◌ {A = ℕ} 0 1 = cc in omega arith)
-  first_on left at h (Instruction op size) e d = inl (here at (is_start (walk_in left sizes body (at + size)) at))
+  first_on left at h (Err stop) e d = absurd (let z : ◌≡◌ {A = ℕ} 0 1 = cc in omega arith)
+  first_on left at h (Ok None) e d = inr (let l = end_only sizes body at e in omega arith)
+  first_on left at h (Ok (Some i)) e d = inl (here at (is_start (walk_in left sizes body (at + i.size)) at))
 
   first_in : (left at : ℕ) → at ≤ length body → length body ≤ at + left → end_of (walk_in left sizes body at) ≡ (Ok tt) → Here left at at
   first_in zero at h k d = inr (omega arith)
@@ -50,18 +47,18 @@ module _ (sizes : ℕ → ℕ) (body : List ℕ) where
       → ((n : ℕ) → n ≤ length body → length body ≤ n + left → end_of (walk_in left sizes body n) ≡ (Ok tt) → is_start (walk_in left sizes body n) t ≡ true → Here left n (next_of t))
       → (st : Step) → step_by sizes body at ≡ st → end_of (on_step at (walk_in left sizes body) st) ≡ (Ok tt) → is_start (on_step at (walk_in left sizes body) st) t ≡ true
       → (is_start (on_step at (walk_in left sizes body) st) (next_of t) ≡ true) ⊎ (next_of t ≡ length body)
-  next_on left at t k go End e d s = absurd (true_not_false s)
-  next_on left at t k go (Unknown b) e d s = absurd (true_not_false s)
-  next_on left at t k go (Truncated op) e d s = absurd (true_not_false s)
-  next_on left at t k go (Instruction op size) e d s =
-      let i = stands sizes body at op size e in
-      let more : Here left (at + size) (next_of t) → (is_start (instr at op size (walk_in left sizes body (at + size))) (next_of t) ≡ true) ⊎ (next_of t ≡ length body) =
+  next_on left at t h go (Err stop) e d s = absurd (true_not_false s)
+  next_on left at t h go (Ok None) e d s = absurd (true_not_false s)
+  next_on left at t h go (Ok (Some i)) e d s =
+      let size = i.size in
+      let k = stands sizes body at i.opcode size e in
+      let more : Here left (at + size) (next_of t) → (is_start (instr at i.opcode size (walk_in left sizes body (at + size))) (next_of t) ≡ true) ⊎ (next_of t ≡ length body) =
       ⊎_elim (λ w. inl (join (eqb (next_of t) at) _ w)) (λ w. inr w) in
       ⊎_elim
       (λ b. let w : t ≡ at = eqb-true t at b in
-      let z : at + size ≡ next_of t = ap (λ (n : ℕ). at + n) (i.is_size ∙ ap sizes i.is_op) ∙ ap (λ (n : ℕ). n + sizes (get_or body n 0)) (sym w) in
-      more (subst (λ (n : ℕ). Here left (at + size) n) z (first_in left (at + size) i.within (omega (arith, i)) d)))
-      (λ r. more (go (at + size) i.within (omega (arith, i)) d r))
+      let z : at + size ≡ next_of t = ap (λ (n : ℕ). at + n) (k.is_size ∙ ap sizes k.is_op) ∙ ap (λ (n : ℕ). n + sizes (get_or body n 0)) (sym w) in
+      more (subst (λ (n : ℕ). Here left (at + size) n) z (first_in left (at + size) k.within (omega (arith, h, k)) d)))
+      (λ r. more (go (at + size) k.within (omega (arith, h, k)) d r))
       (split (eqb t at) (is_start (walk_in left sizes body (at + size)) t) s)
 
   next_in : (left at t : ℕ) → length body ≤ at + left → end_of (walk_in left sizes body at) ≡ (Ok tt) → is_start (walk_in left sizes body at) t ≡ true → Here left at (next_of t)

@@ -1,12 +1,10 @@
 -- The laws of starts that the crates above use. Marks are exactly the decoded starts, each with its instruction's size; an instruction's next
 -- offset, in a body that decodes to its end, is a start or the length; so is offset 0; a legal target is a start or the length.
 -- Assumes nothing.
-use Rattle.std.specs.Prelude.{ℕ, zero, suc, ◌+◌, ◌<◌, ◌≡◌, refl, ◌⊎◌, Bool, true, false, cond, List, eqb, length, get_or, set}
+use Rattle.std.specs.Prelude.{ℕ, zero, suc, ◌+◌, ◌<◌, ◌≡◌, refl, ◌⊎◌, Bool, true, false, cond, List, eqb, length, get_or, set, Ok, Err, Some, None}
 use Rattle.std.proofs.Common.{◌∙◌, ap, sym, inl, inr, ⊎_elim, arith, length-set, get_or-set_same, get_or-set_other, eqb-true}
 use Rattle.std.proofs.lemmas.Bool.{eqb-false}
-use Rattle.flow.specs.declared.Step.{Step}
-use Rattle.flow.specs.declared.Step.TheVariants.{End, Unknown, Truncated, Instruction}
-use Rattle.flow.specs.Decode.{step_by}
+use Rattle.flow.specs.Decode.{Step, found, step_by}
 use Rattle.flow.specs.Walk.{Walk, stops, instr, on_step, walk_in, walk_by, mark_all, is_start}
 use Rattle.flow.proofs.Laws.{stands}
 
@@ -24,11 +22,11 @@ module _ (sizes : ℕ → ℕ) (body : List ℕ) where
       → ((n : ℕ) (m : List ℕ) → t < length m → get_or (mark_all (walk_in left sizes body n) m) t 0 ≡ cond (is_start (walk_in left sizes body n) t) (sizes (get_or body t 0)) (get_or m t 0))
       → (st : Step) → step_by sizes body at ≡ st
       → get_or (mark_all (on_step at (walk_in left sizes body) st) marks) t 0 ≡ cond (is_start (on_step at (walk_in left sizes body) st) t) (sizes (get_or body t 0)) (get_or marks t 0)
-  marked_on left at t marks h go End e = refl
-  marked_on left at t marks h go (Unknown b) e = refl
-  marked_on left at t marks h go (Truncated op) e = refl
-  marked_on left at t marks h go (Instruction op size) e =
-      let k = stands sizes body at op size e in
+  marked_on left at t marks h go (Err stop) e = refl
+  marked_on left at t marks h go (Ok None) e = refl
+  marked_on left at t marks h go (Ok (Some i)) e =
+      let size = i.size in
+      let k = stands sizes body at i.opcode size e in
       let z : t ≡ at → size ≡ sizes (get_or body t 0) = λ w. k.is_size ∙ ap sizes (k.is_op ∙ ap (λ (n : ℕ). get_or body n 0) (sym w)) in
       let n : t < length (set marks at size) = simp length-set h in
       go (at + size) (set marks at size) n ∙ marked_by at t size (sizes (get_or body t 0)) marks (eqb t at) (is_start (walk_in left sizes body (at + size)) t) refl z h
@@ -50,7 +48,7 @@ length_marked (instr at op size w) marks = length_marked w (set marks at size) �
 pub record Begins (sizes : ℕ → ℕ) (body : List ℕ) (t : ℕ) : Type 0 where
   pub op : ℕ
   pub size : ℕ
-  pub step : step_by sizes body t ≡ Instruction op size
+  pub step : step_by sizes body t ≡ found op size
 
 pub split : (a b : Bool) → cond a true b ≡ true → (a ≡ true) ⊎ (b ≡ true)
 split true b e = inl refl
@@ -65,11 +63,10 @@ join false b e = e
 
 module _ (sizes : ℕ → ℕ) (body : List ℕ) where
   begins_on : (left at t : ℕ) → ((n : ℕ) → is_start (walk_in left sizes body n) t ≡ true → Begins sizes body t) → (st : Step) → step_by sizes body at ≡ st → is_start (on_step at (walk_in left sizes body) st) t ≡ true → Begins sizes body t
-  begins_on left at t go End e s = absurd (true_not_false s)
-  begins_on left at t go (Unknown b) e s = absurd (true_not_false s)
-  begins_on left at t go (Truncated op) e s = absurd (true_not_false s)
-  begins_on left at t go (Instruction op size) e s =
-      ⊎_elim (λ b. record { op = op; size = size; step = ap (step_by sizes body) (eqb-true t at b) ∙ e }) (λ r. go (at + size) r) (split (eqb t at) (is_start (walk_in left sizes body (at + size)) t) s)
+  begins_on left at t go (Err stop) e s = absurd (true_not_false s)
+  begins_on left at t go (Ok None) e s = absurd (true_not_false s)
+  begins_on left at t go (Ok (Some i)) e s =
+      ⊎_elim (λ b. record { op = i.opcode; size = i.size; step = ap (step_by sizes body) (eqb-true t at b) ∙ e }) (λ r. go (at + i.size) r) (split (eqb t at) (is_start (walk_in left sizes body (at + i.size)) t) s)
 
   begins_in : (left at t : ℕ) → is_start (walk_in left sizes body at) t ≡ true → Begins sizes body t
   begins_in zero at t s = absurd (true_not_false s)

@@ -1,23 +1,30 @@
 -- What stands at an offset of a body, its operands, where control goes from there, and which targets are legal. `sizes` gives each
 -- opcode's size, 0 where it is unassigned; 01's is `size_of`.
 -- Assumes nothing.
-use Rattle.std.specs.Prelude.{ℕ, ◌+◌, ◌-◌, ◌*◌, cond, List, ltb, leb, eqb, length, get_or, take, drop, Ok, Err, Result}
-use Rattle.flow.specs.declared.Step.{Step}
-use Rattle.flow.specs.declared.Step.TheVariants.{End, Unknown, Truncated, Instruction}
+use Rattle.std.specs.Prelude.{ℕ, ◌+◌, ◌-◌, ◌*◌, cond, List, ltb, leb, eqb, length, get_or, take, drop, Ok, Err, Result, Some, None, Option}
+use Rattle.flow.specs.declared.Instruction.{Instruction}
+use Rattle.flow.specs.declared.Stop.{Stop}
 use Rattle.flow.specs.declared.Flow.{Flow}
 use Rattle.flow.specs.declared.Flow.TheVariants.{Next, Jump, Branch, Return}
 use Rattle.flow.specs.declared.Spot.{Spot}
 use Rattle.flow.specs.declared.Spot.TheVariants.{At, Before}
 
+-- what stands at an offset: an instruction, none at the body's end and past it, or a decoding stop
+abbrev pub Step : Type 0
+Step = Result (Option Instruction) Stop
+
+abbrev pub found : ℕ → ℕ → Step
+found op size = Ok (Some (record { opcode = op; size = size }))
+
 -- the step at a byte op, with n bytes from it to the body's end
-abbrev pub step_op : (ℕ → ℕ) → ℕ → ℕ → Step
-step_op sizes n op =
-    cond (eqb (sizes op) 0) (Unknown op)
-    (cond (leb (sizes op) n) (Instruction op (sizes op))
-    (Truncated op))
+abbrev pub step_op : (ℕ → ℕ) → ℕ → ℕ → ℕ → Step
+step_op sizes at n op =
+    cond (eqb (sizes op) 0) (Err (Stop.Unknown at op))
+    (cond (leb (sizes op) n) (found op (sizes op))
+    (Err (Stop.Truncated at op)))
 
 unfoldable pub step_by : (ℕ → ℕ) → List ℕ → ℕ → Step
-step_by sizes body at = cond (leb (length body) at) End (step_op sizes (length body - at) (get_or body at 0))
+step_by sizes body at = cond (leb (length body) at) (Ok None) (step_op sizes at (length body - at) (get_or body at 0))
 
 -- the bytes after the opcode, up to the instruction's size
 unfoldable pub operands_at : List ℕ → ℕ → ℕ → List ℕ

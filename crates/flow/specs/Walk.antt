@@ -1,11 +1,9 @@
 -- The instructions of a body in decoded order. Decoding starts at 0 and stops at the first unassigned byte or cut instruction.
 -- Assumes nothing.
-use Rattle.flow.specs.declared.starts.Stop.{Stop}
-use Rattle.std.specs.Prelude.{ℕ, zero, suc, ◌+◌, Bool, true, false, cond, List, eqb, length, set, Ok, Err, Result}
+use Rattle.std.specs.Prelude.{ℕ, zero, suc, ◌+◌, Bool, true, false, cond, List, eqb, length, set, Ok, Err, Result, Some, None}
 use Rattle.cells.specs.Zeros.{zeros}
-use Rattle.flow.specs.Decode.{step_by}
-use Rattle.flow.specs.declared.Step.{Step}
-use Rattle.flow.specs.declared.Step.TheVariants.{End, Unknown, Truncated, Instruction}
+use Rattle.flow.specs.declared.Stop.{Stop}
+use Rattle.flow.specs.Decode.{Step, step_by}
 
 -- how decoding ends: at the body's end, or at the first unassigned byte or cut instruction
 abbrev pub Decoded : Type 0
@@ -18,10 +16,10 @@ pub data Walk : Type 0 where
   instr : ℕ → ℕ → ℕ → Walk → Walk
 
 abbrev pub on_step : ℕ → (ℕ → Walk) → Step → Walk
-on_step at rest End = stops at (Ok tt)
-on_step at rest (Unknown byte) = stops at (Err (Stop.Unknown at byte))
-on_step at rest (Truncated op) = stops at (Err (Stop.Truncated at op))
-on_step at rest (Instruction op size) = instr at op size (rest (at + size))
+-- decoding ends at the first unassigned byte or cut instruction
+on_step at rest (Err stop) = stops at (Err stop)
+on_step at rest (Ok None) = stops at (Ok tt)
+on_step at rest (Ok (Some i)) = instr at i.opcode i.size (rest (at + i.size))
 
 abbrev pub walk_in : ℕ → (ℕ → ℕ) → List ℕ → ℕ → Walk
 walk_in zero sizes body at = stops at (Ok tt)

@@ -7,17 +7,18 @@ ghost use Rattle.std.specs.Prelude.{◌≡◌};
 ghost use Rattle.tables.specs.Packed.{size_in};
 ghost use Rattle.flow.specs.Decode.{step_by, operands_at, word_at, flow_of, moved, target_of};
 
-// What stands at an offset of a body.
+// An instruction: its opcode, and its size with the operands.
 #[derive(Clone, Copy, PartialEq, Eq, Debug)]
-pub enum Step {
-    // The body's end, or past it.
-    End,
-    // A byte that is no opcode.
-    Unknown(u8),
-    // An opcode whose operands run past the end.
-    Truncated(u8),
-    // An opcode, and the instruction's size.
-    Instruction(u8, u8),
+pub struct Instruction {
+    pub opcode: u8,
+    pub size: u8,
+}
+
+// A decoding stop before a body's end: a byte that is no opcode, or an opcode whose operands run past the end.
+#[derive(Clone, Copy, PartialEq, Eq, Debug)]
+pub enum Stop {
+    Unknown { offset: usize, byte: u8 },
+    Truncated { offset: usize, opcode: u8 },
 }
 
 // Where control goes. A branch carries its offset as the word that stands in the code.
@@ -29,29 +30,37 @@ pub enum Flow {
     Return,
 }
 
-// A place counted from the body's start: so many bytes after it, or before it.
+// A place counted from the body's start: so many bytes after it, or before it. No i64: `moved` answers any `next` above a body's length as it came, and
+// no signed number holds every usize.
 #[derive(Clone, Copy, PartialEq, Eq, Debug)]
 pub enum Spot {
     At(usize),
     Before(usize),
 }
 
-// The decoding step, in plain form.
-pub fn decode_step(sizes: &[u8; 256], body: &[u8], at: usize) -> Step
-    ensures { result ≡ step_by (size_in sizes.now) body.now at }
+// The decoding step, in plain form: the instruction at an offset, or none at the body's end and past it.
+pub fn decode_step(
+    sizes: &[u8; 256],
+    body: &[u8],
+    offset: usize,
+) -> Result<Option<Instruction>, Stop>
+    ensures { result ≡ step_by (size_in sizes.now) body.now offset }
 {
-    if body.len() <= at {
-        return Step::End;
+    if body.len() <= offset {
+        return Ok(None);
     }
-    let op = body[at];
-    let size = tables::size_in(sizes, op);
+    let opcode = body[offset];
+    let size = tables::size_in(sizes, opcode);
     if size == 0 {
-        return Step::Unknown(op);
+        return Err(Stop::Unknown {
+            offset,
+            byte: opcode,
+        });
     }
-    if usize::from(size) <= body.len() - at {
-        Step::Instruction(op, size)
+    if usize::from(size) <= body.len() - offset {
+        Ok(Some(Instruction { opcode, size }))
     } else {
-        Step::Truncated(op)
+        Err(Stop::Truncated { offset, opcode })
     }
 }
 
@@ -102,12 +111,12 @@ pub fn flow_of(op: u8, operands: &[u8]) -> Flow
     ensures { result ≡ flow_of op operands.now }
 {
     match op {
-        0x7C => Flow::Jump(word_at(operands, 0)),
-        0x80 => Flow::Branch(word_at(operands, 0)),
-        0xF4 => Flow::Branch(word_at(operands, 5)),
-        0xF5 => Flow::Branch(word_at(operands, 5)),
-        0x88 => Flow::Return,
-        0x8C => Flow::Return,
+        tables::JMP => Flow::Jump(word_at(operands, 0)),
+        tables::JMP_IF_NOT => Flow::Branch(word_at(operands, 0)),
+        tables::CMP_BR_I32 => Flow::Branch(word_at(operands, 5)),
+        tables::CMP_BR_I64 => Flow::Branch(word_at(operands, 5)),
+        tables::RET => Flow::Return,
+        tables::RET_VOID => Flow::Return,
         _ => Flow::Next,
     }
 }

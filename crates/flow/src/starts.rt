@@ -4,14 +4,7 @@ ghost use Rattle.tables.specs.Packed.{size_in};
 ghost use Rattle.flow.specs.Walk.{walk_by, end_of, mark_all, has_ret};
 ghost use Rattle.flow.specs.Marked.{Marked, Skipped};
 
-use crate::{Step, decode_step};
-
-// A decoding stop before a body's end: at an unassigned byte, or at a cut instruction.
-#[derive(Clone, Copy, PartialEq, Eq, Debug)]
-pub enum Stop {
-    Unknown { offset: usize, byte: u8 },
-    Truncated { offset: usize, opcode: u8 },
-}
+use crate::{Stop, decode_step};
 
 // Marks a stretch of instructions of one byte, and answers where it ends: most instructions have one byte, and a loop of their own waits
 // for no size to find the next.
@@ -32,22 +25,11 @@ fn mark_ones(marks: &mut [u8], sizes: &[u8; 256], body: &[u8], from: usize) -> u
 pub fn mark_starts(marks: &mut [u8], sizes: &[u8; 256], body: &[u8]) -> Result<(), Stop>
     ensures { (result ≡ end_of (walk_by (size_in sizes.now) body.now 0)) × (marks.new ≡ mark_all (walk_by (size_in sizes.now) body.now 0) marks.old) }
 {
-    let mut at: usize = 0;
-    while at < body.len() {
-        let from = mark_ones(marks, sizes, body, at);
-        let step = decode_step(sizes, body, from);
-        match step {
-            Step::Instruction(_, size) => {
-                cells::put(marks, from, size);
-                at = from + usize::from(size);
-            }
-            Step::Unknown(byte) => return Err(Stop::Unknown { offset: from, byte }),
-            Step::Truncated(opcode) => return Err(Stop::Truncated {
-                offset: from,
-                opcode,
-            }),
-            Step::End => return Ok(()),
-        }
+    let mut at = mark_ones(marks, sizes, body, 0);
+    // No `for`: each turn goes on by an instruction's size.
+    while let Some(instruction) = decode_step(sizes, body, at)? {
+        cells::put(marks, at, instruction.size);
+        at = mark_ones(marks, sizes, body, at + usize::from(instruction.size));
     }
     Ok(())
 }
@@ -70,21 +52,12 @@ fn skip_ones(sizes: &[u8; 256], body: &[u8], from: usize) -> usize
 pub fn has_ret(sizes: &[u8; 256], body: &[u8]) -> bool
     ensures { result ≡ has_ret (walk_by (size_in sizes.now) body.now 0) }
 {
-    let mut at: usize = 0;
-    while at < body.len() {
-        let from = skip_ones(sizes, body, at);
-        let step = decode_step(sizes, body, from);
-        match step {
-            Step::Instruction(op, size) => {
-                if op == tables::RET {
-                    return true;
-                }
-                at = from + usize::from(size);
-            }
-            Step::Unknown(_) => return false,
-            Step::Truncated(_) => return false,
-            Step::End => return false,
+    let mut at = skip_ones(sizes, body, 0);
+    while let Some(instruction) = decode_step(sizes, body, at).unwrap_or(None) {
+        if instruction.opcode == tables::RET {
+            return true;
         }
+        at = skip_ones(sizes, body, at + usize::from(instruction.size));
     }
     false
 }

@@ -2,7 +2,7 @@
 -- the walk finds 22; with 23 if it finds 23. It never runs out of turns, by the walk's own theorem, since each mark fits its body.
 -- Assumes nothing.
 use Rattle.std.specs.Prelude.{Ok, Err}
-use Rattle.flow.specs.declared.starts.Stop.{Stop}
+use Rattle.flow.specs.declared.Stop.{Stop}
 use Prim.Native.Nat.{ℕ, ◌+◌, ◌*◌}
 use mathlib.Core.Path.{◌≡◌, refl, ap, ◌∙◌}
 use mathlib.Core.Logic.{◌⊎◌, inl, inr}

@@ -1,7 +1,7 @@
 -- One body: how its decoding ends and its walk make what the definition says of it, over any rules; and the directory's loop, row after row.
 -- Assumes nothing.
 use Rattle.std.specs.Prelude.{Ok, Err}
-use Rattle.flow.specs.declared.starts.Stop.{Stop}
+use Rattle.flow.specs.declared.Stop.{Stop}
 use Prim.Native.Nat.{ℕ, ◌+◌, ◌*◌, ◌≤◌}
 use native.Mathlib.Omega.{arith}
 use mathlib.Core.Path.{◌≡◌, refl, ◌∙◌, ap, sym}

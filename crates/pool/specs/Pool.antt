@@ -1,6 +1,6 @@
 -- The pool check: each function in directory order decoded and walked, then for each entry the depth-first visit.
 -- Assumes nothing.
-use Rattle.flow.specs.declared.starts.Stop.{Stop}
+use Rattle.flow.specs.declared.Stop.{Stop}
 use Rattle.std.specs.Prelude.{ℕ, zero, suc, ◌+◌, ◌-◌, ◌*◌, cond, List, [], ◌∷◌, ltb, length, get_or, Result, Ok, Err}
 use Rattle.cells.specs.Zeros.{zeros}
 use Rattle.tables.specs.Set.{size_of}

@@ -5,7 +5,7 @@
 use answers::Fields;
 use codes::CodeList;
 use flow::Flow;
-use flow::starts::Stop;
+use flow::Stop;
 use program::{Descriptors, Functions, PoolProgram, Program, Scratch};
 
 // An offset, shifted by two bits to make room for a kind. No body is as long as 2 to the power of 30.

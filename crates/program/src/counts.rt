@@ -5,7 +5,7 @@ ghost use Rattle.program.specs.Refusals.{lengths_of, table_refused, too_many, po
 
 use crate::{Descriptors, Program};
 
-// A table by its limit, the length of its first column and the lengths of its others.
+// A table by its limit, the length of its first column and the lengths of its others. No `any`: with its closure the check gave up.
 pub fn table_refused(limit: usize, rows: usize, others: &[usize]) -> bool
     ensures { result ≡ table_refused limit rows others.now }
 {

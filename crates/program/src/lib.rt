@@ -223,7 +223,7 @@ pub fn pool_input(program: &PoolProgram<'_>, room: Room, cells: usize) -> Result
     ordered(&program.program, room, many, short, pool_rest(program.pool))
 }
 
-// The first row with an id, row after row.
+// The first row with an id, row after row. No `position`: with its closure the check did not find that this is `place_of`.
 pub fn first_row(ids: &[u16], id: u16) -> Option<usize>
     ensures { result ≡ place_of ids.now id }
 {

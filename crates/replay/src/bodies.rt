@@ -1,7 +1,7 @@
 // bodies.bin and targets.bin: how bodies decode, where their instructions start, whether RET is among them, and where branches lead.
 use crate::tally;
 use crate::tally::Tally;
-use flow::starts::Stop;
+use flow::Stop;
 use flow::{Flow, Spot};
 
 // How decoding ends as its entry has it.

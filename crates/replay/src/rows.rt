@@ -3,7 +3,7 @@ use crate::tally;
 use crate::tally::Tally;
 use tables::{Effect, Move};
 
-// The effect as its row has it: kind, takes, leaves.
+// The effect as its row has it: kind, takes, leaves. The kind is the file's byte.
 fn recorded_move(kind: u8, takes: u8, leaves: u8) -> Option<Move> {
     match kind {
         1 => Some(Move::Fixed(Effect::new(takes as u16, leaves as u16))),

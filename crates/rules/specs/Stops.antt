@@ -1,6 +1,6 @@
 -- What a decoding stop stands for.
 -- Assumes nothing.
-use Rattle.flow.specs.declared.starts.Stop.{Stop}
+use Rattle.flow.specs.declared.Stop.{Stop}
 use Rattle.rules.specs.declared.Violation.{Violation}
 
 -- 1 or 2

@@ -1,7 +1,7 @@
 -- The stack call accepts exactly if the input is not refused, every body decodes to its end and in each one depth per reachable offset satisfies
 -- every rule. Each body by the walk's own theorem, over any sizes and effects; the directory row by row.
 -- Assumes nothing.
-use Rattle.flow.specs.declared.starts.Stop.{Stop}
+use Rattle.flow.specs.declared.Stop.{Stop}
 use Rattle.std.specs.Prelude.{Ok, Err}
 use Prim.Native.Nat.{ℕ, zero, suc, ◌+◌, ◌≤◌, ◌<◌}
 use native.Mathlib.Omega.{arith}

@@ -7,7 +7,7 @@ use Rattle.flow.specs.Walk.{walk_by, end_of, marks_of, Decoded}
 use Rattle.program.specs.declared.Room.{Room}
 use Rattle.program.specs.Program.{Program, body_of}
 use Rattle.program.specs.Refusals.{stack_input, Input}
-use Rattle.flow.specs.declared.starts.Stop.{Stop}
+use Rattle.flow.specs.declared.Stop.{Stop}
 use Rattle.rules.specs.declared.Violation.{Violation}
 use Rattle.rules.specs.Look.{Effects, look_of}
 use Rattle.rules.specs.Walk.{walk_of, Walked}

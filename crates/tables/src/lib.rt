@@ -131,7 +131,7 @@ pub fn effect_in(words: &[u16; 256], op: u8) -> Effect
     Effect::new(word % 4, word / 4 % 4)
 }
 
-// Where the effect of op comes from.
+// Where the effect of op comes from. The sort is a number, since it is a part of a stored word (`sort_move` in specs/Packed.antt).
 pub fn move_in(words: &[u16; 256], op: u8) -> Move
     ensures { result ≡ move_in words.now op }
 {
@@ -144,7 +144,7 @@ pub fn move_in(words: &[u16; 256], op: u8) -> Move
     }
 }
 
-// What op does to the temp buffers.
+// What op does to the temp buffers, another part of the word.
 pub fn temp_in(words: &[u16; 256], op: u8) -> TempEffect
     ensures { result ≡ temp_in words.now op }
 {

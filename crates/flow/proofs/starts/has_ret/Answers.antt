@@ -2,55 +2,38 @@
 -- Assumes nothing.
 use mathlib.Core.Path.{◌∙◌, sym}
 use native.Mathlib.Omega.{arith}
-use borrow.Author.Rules.{rules}
 use borrow.Author.Tests.{eq-eqb}
-use Rattle.flow.specs.declared.Step.TheVariants.{Instruction}
-use Rattle.flow.proofs.Laws.{stands, walk_is, walk_end}
-use Rattle.flow.proofs.Marking.{skipped_first, skipped_then, skipped_on, skipped_last}
+use Rattle.flow.specs.Decode.{found}
+use Rattle.flow.proofs.Laws.{stands, walk_is}
+use Rattle.flow.proofs.Marking.{skipped_then, skipped_on, skipped_last, skipped_end, is_found}
 use Rattle.flow.proofs.starts.has_ret.Goals as goal
 
-pub loop-at-init : goal.loop-at-init
-loop-at-init c = skipped_first _ _ _ (search rules)
+pub skip_ones-at-requires-in-Some : goal.skip_ones-at-requires-in-Some
+skip_ones-at-requires-in-Some c = let i = c.in-Some.instruction in
+    let e = sym c.decode_step.ensures ∙ is_found c.decode_step.result i (sym c.unwrap_or.ensures ∙ c.in-Some.is) in
+    let k = stands _ c.args.body.now c.loop-instruction.at i.opcode i.size e in
+    rw c.from.ensures k.within
 
-pub returns-then-op : goal.returns-then-op
-returns-then-op c = let s = c.args.body.now in
-    let at = c.skip_ones-from.result in
-    let e = sym c.decode_step-step.ensures ∙ c.in-Instruction.is in
-    simp (eq-eqb _ _ c.if-op.true) at (skipped_last _ s _ at _ (skipped_then _ s _ c.loop-at.at at c.loop-at.invariant c.skip_ones-from.ensures) (walk_is _ s at (Instruction _ _) e))
+pub loop-instruction-smaller : goal.loop-instruction-smaller
+loop-instruction-smaller c = let i = c.in-Some.instruction in
+    let e = sym c.decode_step.ensures ∙ is_found c.decode_step.result i (sym c.unwrap_or.ensures ∙ c.in-Some.is) in
+    let k = stands _ c.args.body.now c.loop-instruction.at i.opcode i.size e in
+    omega (arith, k.within, k.some, c.from.ensures, c.skip_ones-at-in-Some.ensures.onward)
 
-pub overflow_add-at : goal.overflow_add-at
-overflow_add-at c = let k = stands _ c.args.body.now c.skip_ones-from.result _ _ (sym c.decode_step-step.ensures ∙ c.in-Instruction.is) in
-    omega (arith, k.within, c.from.ensures, c)
+pub loop-instruction-preserved : goal.loop-instruction-preserved
+loop-instruction-preserved c = let s = c.args.body.now in
+    let i = c.in-Some.instruction in
+    let at = c.loop-instruction.at in
+    let e = sym c.decode_step.ensures ∙ is_found c.decode_step.result i (sym c.unwrap_or.ensures ∙ c.in-Some.is) in
+    let m = skipped_then _ s _ at _ c.loop-instruction.invariant (skipped_on _ s at i.opcode i.size e c.if-instruction.false) in
+    skipped_then _ s _ _ _ m (rw c.from.ensures at c.skip_ones-at-in-Some.ensures)
 
-pub loop-at-smaller : goal.loop-at-smaller
-loop-at-smaller c = let k = stands _ c.args.body.now c.skip_ones-from.result _ _ (sym c.decode_step-step.ensures ∙ c.in-Instruction.is) in
-    omega (arith, k.within, k.some, c.from.ensures, c.skip_ones-from.ensures.onward, c.loop-at-test.true)
-
-pub loop-at-preserved : goal.loop-at-preserved
-loop-at-preserved c = let s = c.args.body.now in
-    let at = c.skip_ones-from.result in
-    let e = sym c.decode_step-step.ensures ∙ c.in-Instruction.is in
-    let m = skipped_then _ s _ c.loop-at.at at c.loop-at.invariant c.skip_ones-from.ensures in
-    rw c.from.ensures (skipped_then _ s _ at _ m (skipped_on _ s at _ _ e c.if-op.false))
-
-pub returns-in-Unknown : goal.returns-in-Unknown
-returns-in-Unknown c = let s = c.args.body.now in
-    let at = c.skip_ones-from.result in
-    let e = sym c.decode_step-step.ensures ∙ c.in-Unknown.is in
-    skipped_last _ s _ at _ (skipped_then _ s _ c.loop-at.at at c.loop-at.invariant c.skip_ones-from.ensures) (walk_is _ s at _ e)
-
-pub returns-in-Truncated : goal.returns-in-Truncated
-returns-in-Truncated c = let s = c.args.body.now in
-    let at = c.skip_ones-from.result in
-    let e = sym c.decode_step-step.ensures ∙ c.in-Truncated.is in
-    skipped_last _ s _ at _ (skipped_then _ s _ c.loop-at.at at c.loop-at.invariant c.skip_ones-from.ensures) (walk_is _ s at _ e)
-
-pub returns-in-End : goal.returns-in-End
-returns-in-End c = let s = c.args.body.now in
-    let at = c.skip_ones-from.result in
-    let e = sym c.decode_step-step.ensures ∙ c.in-End.is in
-    skipped_last _ s _ at _ (skipped_then _ s _ c.loop-at.at at c.loop-at.invariant c.skip_ones-from.ensures) (walk_is _ s at _ e)
+pub returns-then-instruction : goal.returns-then-instruction
+returns-then-instruction c = let s = c.args.body.now in
+    let i = c.in-Some.instruction in
+    let at = c.loop-instruction.at in
+    let e = sym c.decode_step.ensures ∙ is_found c.decode_step.result i (sym c.unwrap_or.ensures ∙ c.in-Some.is) in
+    simp (eq-eqb _ _ c.if-instruction.true) at (skipped_last _ s _ at _ c.loop-instruction.invariant (walk_is _ s at (found i.opcode i.size) e))
 
 pub returns : goal.returns
-returns c = let s = c.args.body.now in
-    skipped_last _ s _ c.loop-at.at _ c.loop-at.invariant (walk_end _ s c.loop-at.at c.loop-at-test.false)
+returns c = skipped_end _ c.args.body.now _ c.loop-instruction.at c.decode_step.result c.loop-instruction.invariant (sym c.decode_step.ensures) (sym c.unwrap_or.ensures ∙ c.in_default.is)

@@ -6,8 +6,8 @@ use Rattle.tables.specs.Packed.{size_in}
 use Rattle.flow.specs.Marked.{Skipped}
 use Rattle.flow.proofs.starts.has_ret.Given as goal
 
-abbrev pub invariant-loop-at : goal.invariant-loop-at
-invariant-loop-at l = Skipped (size_in l.sizes) l.body 0 l.at
+abbrev pub invariant-loop-instruction : goal.invariant-loop-instruction
+invariant-loop-instruction l = Skipped (size_in l.sizes) l.body 0 l.at
 
-abbrev pub decreases-loop-at : goal.decreases-loop-at
-decreases-loop-at l = length l.body - l.at
+abbrev pub decreases-loop-instruction : goal.decreases-loop-instruction
+decreases-loop-instruction l = length l.body - l.at

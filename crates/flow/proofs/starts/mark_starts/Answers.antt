@@ -1,54 +1,46 @@
--- `flow::starts::mark_starts` meets its contract. The invariant is `Marked`: what is left of the walk from `at` on, marked, is the whole walk.
+-- `flow::starts::mark_starts` meets its contract. The invariant is `Marked`: what is left of the walk from `at` on, marked, is what the loop began
+-- with, and the first stretch is marked before it.
 -- Assumes nothing.
-use mathlib.Core.Path.{◌∙◌, sym}
+use mathlib.Core.Path.{◌≡◌, ◌∙◌, ap, sym}
 use native.Mathlib.Omega.{arith}
 use borrow.Author.Rules.{rules}
-use Rattle.flow.specs.declared.Step.TheVariants.{End, Unknown, Truncated}
-use Rattle.flow.proofs.Laws.{stands, walk_is, walk_end}
+use Rattle.std.specs.Prelude.{Ok, Err, None}
+use Rattle.flow.proofs.Laws.{stands, walk_is}
 use Rattle.flow.proofs.Marking.{marked_first, marked_then, marked_on, marked_last}
 use Rattle.flow.proofs.starts.mark_starts.Goals as goal
 
-pub loop-at-init : goal.loop-at-init
-loop-at-init c = marked_first _ _ _ _ (search rules)
+pub loop-instruction-init : goal.loop-instruction-init
+loop-instruction-init c = marked_first _ _ _ _ c.mark_ones-at.ensures.within
 
-pub overflow_add-at : goal.overflow_add-at
-overflow_add-at c = let k = stands _ c.args.body.now c.mark_ones-from.result _ _ (sym c.decode_step-step.ensures ∙ c.in-Instruction.is) in
-    omega (arith, k.within, c.from.ensures, c)
+pub mark_ones-at-requires-in-Some : goal.mark_ones-at-requires-in-Some
+mark_ones-at-requires-in-Some c = let i = c.in-Some.instruction in
+    let e = sym c.decode_step.ensures ∙ c.in_ok-instruction.was ∙ ap Ok c.in-Some.is in
+    let k = stands _ c.args.body.now c.loop-instruction.at i.opcode i.size e in
+    rw c.from.ensures k.within
 
-pub loop-at-smaller : goal.loop-at-smaller
-loop-at-smaller c = let k = stands _ c.args.body.now c.mark_ones-from.result _ _ (sym c.decode_step-step.ensures ∙ c.in-Instruction.is) in
-    omega (arith, k.within, k.some, c.from.ensures, c.mark_ones-from.ensures.onward, c.loop-at-test.true)
+pub loop-instruction-smaller : goal.loop-instruction-smaller
+loop-instruction-smaller c = let i = c.in-Some.instruction in
+    let e = sym c.decode_step.ensures ∙ c.in_ok-instruction.was ∙ ap Ok c.in-Some.is in
+    let k = stands _ c.args.body.now c.loop-instruction.at i.opcode i.size e in
+    omega (arith, k.within, k.some, c.from.ensures, c.mark_ones-at-in-Some.ensures.onward)
 
-pub loop-at-preserved : goal.loop-at-preserved
-loop-at-preserved c = let l = c.loop-at in
-    let o = c.mark_ones-from in
+pub loop-instruction-preserved : goal.loop-instruction-preserved
+loop-instruction-preserved c = let l = c.loop-instruction in
+    let i = c.in-Some.instruction in
     let s = c.args.body.now in
-    let e = sym c.decode_step-step.ensures ∙ c.in-Instruction.is in
-    let m = marked_then _ s _ _ l.at l.marks o.result o.new.marks l.invariant o.ensures in
-    rw c.from.ensures (marked_on _ s _ _ o.result o.new.marks c.put.new.column _ _ m e c.put.ensures)
+    let e = sym c.decode_step.ensures ∙ c.in_ok-instruction.was ∙ ap Ok c.in-Some.is in
+    let m = marked_on _ s _ _ l.at l.marks c.put.new.column i.opcode i.size l.invariant e c.put.ensures in
+    marked_then _ s _ _ _ _ _ _ m (rw c.from.ensures at c.mark_ones-at-in-Some.ensures)
 
-pub returns-in-Unknown : goal.returns-in-Unknown
-returns-in-Unknown c = let l = c.loop-at in
-    let o = c.mark_ones-from in
+pub returns-in_err-instruction : goal.returns-in_err-instruction
+returns-in_err-instruction c = let l = c.loop-instruction in
     let s = c.args.body.now in
-    let e = sym c.decode_step-step.ensures ∙ c.in-Unknown.is in
-    marked_last _ s _ _ o.result o.new.marks _ (marked_then _ s _ _ l.at l.marks o.result o.new.marks l.invariant o.ensures) (walk_is _ s o.result (Unknown _) e)
-
-pub returns-in-Truncated : goal.returns-in-Truncated
-returns-in-Truncated c = let l = c.loop-at in
-    let o = c.mark_ones-from in
-    let s = c.args.body.now in
-    let e = sym c.decode_step-step.ensures ∙ c.in-Truncated.is in
-    marked_last _ s _ _ o.result o.new.marks _ (marked_then _ s _ _ l.at l.marks o.result o.new.marks l.invariant o.ensures) (walk_is _ s o.result (Truncated _) e)
-
-pub returns-in-End : goal.returns-in-End
-returns-in-End c = let l = c.loop-at in
-    let o = c.mark_ones-from in
-    let s = c.args.body.now in
-    let e = sym c.decode_step-step.ensures ∙ c.in-End.is in
-    marked_last _ s _ _ o.result o.new.marks _ (marked_then _ s _ _ l.at l.marks o.result o.new.marks l.invariant o.ensures) (walk_is _ s o.result End e)
+    let e = sym c.decode_step.ensures ∙ c.in_err-instruction.was in
+    let f : c.from_residual.result ≡ Err c.in_err-instruction.field-0.0 = search (rules, c) in
+    rw f (marked_last _ s _ _ l.at l.marks _ (marked_then _ s _ _ _ _ l.at l.marks c.mark_ones-at.ensures l.invariant) (walk_is _ s l.at (Err _) e))
 
 pub returns : goal.returns
-returns c = let l = c.loop-at in
+returns c = let l = c.loop-instruction in
     let s = c.args.body.now in
-    marked_last _ s _ _ l.at l.marks _ l.invariant (walk_end _ s l.at c.loop-at-test.false)
+    let e = sym c.decode_step.ensures ∙ c.in_ok-instruction.was ∙ ap Ok c.in_default.is in
+    marked_last _ s _ _ l.at l.marks _ (marked_then _ s _ _ _ _ l.at l.marks c.mark_ones-at.ensures l.invariant) (walk_is _ s l.at (Ok None) e)

@@ -1,4 +1,5 @@
--- `flow::starts::mark_starts` meets its contract. The invariant is `Marked`: what is left of the walk from `at` on, marked, is the whole walk.
+-- `flow::starts::mark_starts` meets its contract. The invariant is `Marked`: what is left of the walk from `at` on, marked, is what the loop began
+-- with, and the first stretch is marked before it.
 -- Assumes nothing.
 use Prim.Native.Nat.{◌-◌}
 use lib.ListN.{length}
@@ -6,8 +7,8 @@ use Rattle.tables.specs.Packed.{size_in}
 use Rattle.flow.specs.Marked.{Marked}
 use Rattle.flow.proofs.starts.mark_starts.Given as goal
 
-abbrev pub invariant-loop-at : goal.invariant-loop-at
-invariant-loop-at l = Marked (size_in l.sizes) l.body 0 l.initial.marks l.at l.marks
+abbrev pub invariant-loop-instruction : goal.invariant-loop-instruction
+invariant-loop-instruction l = Marked (size_in l.sizes) l.body l.initial.at l.initial.marks l.at l.marks
 
-abbrev pub decreases-loop-at : goal.decreases-loop-at
-decreases-loop-at l = length l.body - l.at
+abbrev pub decreases-loop-instruction : goal.decreases-loop-instruction
+decreases-loop-instruction l = length l.body - l.at
