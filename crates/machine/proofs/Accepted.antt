@@ -10,8 +10,7 @@ use mathlib.Core.List.{List, [], ◌∷◌}
 use Rattle.cells.specs.Zeros.{copies}
 use Rattle.tables.specs.declared.Effect.{Effect}
 use Rattle.tables.specs.Set.{effect, size_of, move_of, temp_of, instruction_set}
-use Rattle.flow.specs.declared.Step.TheVariants.{Instruction}
-use Rattle.flow.specs.Decode.{step_by, operands_at, word_at, flow_of, moved, target_of}
+use Rattle.flow.specs.Decode.{found, step_by, operands_at, word_at, flow_of, moved, target_of}
 use Rattle.flow.specs.Walk.{walk_by, marks_of}
 use Rattle.codes.specs.First.{first_of}
 use Rattle.codes.specs.Lookup.{place_of, entry_of}
@@ -26,7 +25,7 @@ use Rattle.machine.proofs.PoolAnswers.{pool_answers}
 use Rattle.machine.proofs.Theorem.{runs_safe}
 
 -- an instruction, by what decodes and what is known
-abbrev pub acts : {q : PoolProgram} {fr : Frame} (opcode size : ℕ) (e : Effect) → decoded_at q fr ≡ Instruction opcode size
+abbrev pub acts : {q : PoolProgram} {fr : Frame} (opcode size : ℕ) (e : Effect) → decoded_at q fr ≡ found opcode size
     → known_of move_of q.program opcode (operands_in q fr size) ≡ Ok e → Acts q fr
 acts opcode size e d k = record { opcode = opcode; size = size; effect = e; decodes = d; known = k }
 

@@ -1,7 +1,7 @@
 -- Where a frame can stand: in a body that decodes to its end, offset 0 and wherever an instruction goes on to is a start of an instruction or the
 -- body's end, so that something decodes there, with its mark for its size. By flow's laws on starts, taken at a body's own marks.
 -- Assumes nothing.
-use Rattle.std.specs.Prelude.{Ok}
+use Rattle.std.specs.Prelude.{Ok, None}
 use Prim.Native.Nat.{ℕ, ◌+◌, ◌<◌}
 use native.Mathlib.Omega.{arith}
 use mathlib.Core.Path.{◌≡◌, refl, sym, ap, subst, ◌∙◌}
@@ -10,11 +10,10 @@ use mathlib.Core.List.{List}
 use mathlib.Core.Logic.{◌⊎◌, inl, inr, ⊎_elim}
 use lib.ListN.{length, get_or}
 use Rattle.cells.specs.Zeros.{zeros, length_zeros, any_zero}
-use Rattle.flow.specs.declared.Step.TheVariants.{End, Instruction}
 use Rattle.flow.specs.declared.Flow.{Flow}
 use Rattle.flow.specs.declared.Flow.TheVariants.{Next, Jump, Branch, Return}
 use Rattle.flow.specs.declared.Spot.{Spot}
-use Rattle.flow.specs.Decode.{step_by, moved, target_of}
+use Rattle.flow.specs.Decode.{found, step_by, moved, target_of}
 use Rattle.flow.specs.Walk.{walk_by, end_of, is_start, marks_of}
 use Rattle.flow.proofs.Laws.{Stands, stands, step_end}
 use Rattle.flow.proofs.StartLaws.{marked, Begins, begins}
@@ -34,7 +33,7 @@ module _ (sizes : ℕ → ℕ) (body : List ℕ) where
       let l = length_zeros (zeros (length body)) (length body) refl in
       ap (λ (marks : List ℕ). get_or marks t 0) (marks_are sizes body) ∙ marked sizes body 0 t (zeros (length body)) (omega arith) ∙ ap (λ (b : Bool). cond b (sizes (get_or body t 0)) (get_or (zeros (length body)) t 0)) s
 
-  pub place_at : (t op size : ℕ) → Standing sizes body t → step_by sizes body t ≡ Instruction op size → Place t op size
+  pub place_at : (t op size : ℕ) → Standing sizes body t → step_by sizes body t ≡ found op size → Place t op size
   place_at t op size at e = by (stands sizes body t op size e) at
     where
       by : Stands sizes body t op size → Standing sizes body t → Place t op size
@@ -44,7 +43,7 @@ module _ (sizes : ℕ → ℕ) (body : List ℕ) where
       by s (inr w) = absurd (omega (arith, s.some, s.within))
 
   -- something decodes there
-  pub decodes_at : (t : ℕ) → Standing sizes body t → Begins sizes body t ⊎ (step_by sizes body t ≡ End)
+  pub decodes_at : (t : ℕ) → Standing sizes body t → Begins sizes body t ⊎ (step_by sizes body t ≡ Ok None)
   decodes_at t (inl w) = inl (begins sizes body 0 t w)
   decodes_at t (inr w) = inr (step_end sizes body t (omega arith))
 

@@ -1,7 +1,7 @@
 -- Why rejected programs are rejected: for one of each of 5, 6, 8, 9, 20 and 21 a run to a configuration that is not safe, with the clause that it
 -- breaks. Each step by computation from the machine's definition, which tests nothing; the answers are StackAnswers.antt's and PoolAnswers.antt's.
 -- Assumes nothing.
-use Rattle.std.specs.Prelude.{Err}
+use Rattle.std.specs.Prelude.{Ok, Err, None}
 use Rattle.pool.specs.declared.Fault as of-pool
 use Rattle.stack.specs.declared.Fault as of-stack
 use Prim.Native.Nat.{ℕ, ◌<◌}
@@ -11,7 +11,6 @@ use mathlib.Core.Logic.{inl, inr, ⊎_elim}
 use mathlib.Core.List.{List, [], ◌∷◌}
 use Rattle.cells.specs.Zeros.{copies}
 use Rattle.tables.specs.Set.{effect, size_of, move_of, temp_of, instruction_set}
-use Rattle.flow.specs.declared.Step.TheVariants.{End}
 use Rattle.flow.specs.declared.Flow.TheVariants.{Return}
 use Rattle.flow.specs.Decode.{step_by, operands_at, word_at, flow_of, moved, target_of}
 use Rattle.flow.specs.Walk.{walk_by, marks_of}
@@ -84,7 +83,7 @@ end_run : Run left_over (frame 0 1 1 0 ∷ [])
 unfolding place_of first_of
 end_run = record { entry = 0; listed = (1, inl refl, refl); steps = then begins load_last }
 
-pub leaves_over : Run left_over (frame 0 1 1 0 ∷ []) × (decoded_at left_over (frame 0 1 1 0) ≡ End)
+pub leaves_over : Run left_over (frame 0 1 1 0 ∷ []) × (decoded_at left_over (frame 0 1 1 0) ≡ Ok None)
 unfolding copies size_of move_of temp_of instruction_set step_by operands_at word_at flow_of moved target_of walk_by marks_of first_of place_of entry_of body_of known_of temps_by opens_by
 leaves_over = (end_run, refl)
 

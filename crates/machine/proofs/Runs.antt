@@ -3,6 +3,7 @@
 -- left of the pool when the weights of the frames below are taken from it suffices for all chains of calls from it (Below). A step keeps that: by the
 -- sheets of the bodies (pool's Sheets.antt), one depth for each reachable offset (stack's Accepting.antt) and the laws of tame functions (visit).
 -- Assumes nothing.
+use Rattle.std.specs.Prelude.{Ok, None}
 use Prim.Native.Nat.{ℕ, zero, suc, ◌+◌, ◌≤◌, ◌<◌}
 use native.Mathlib.Omega.{arith}
 use mathlib.Core.Path.{◌≡◌, refl, sym, subst, ◌∙◌}
@@ -10,7 +11,6 @@ use mathlib.Core.List.{List, [], ◌∷◌}
 use mathlib.Core.Logic.{◌⊎◌, inl, inr, ⊎_elim}
 use lib.ListN.{length, get_or}
 use Rattle.tables.specs.Set.{size_of, move_of}
-use Rattle.flow.specs.declared.Step.TheVariants.{End}
 use Rattle.flow.specs.Walk.{marks_of}
 use Rattle.flow.proofs.Laws.{end_only}
 use Rattle.flow.proofs.StartLaws.{Begins}
@@ -203,7 +203,7 @@ module _ (q : PoolProgram) (stack-room room : Room) (cells : ℕ) (stacked : Sou
           ⊎_elim (λ e. (c, returns x e)) (λ w. (opening (opens_of q x.opcode (operands_in q fr x.size)) (gone q fr x w.0 ∷ c), goes x w.0 w.1))
           (way_on (marks_of size_of (body_in q fr)) (length (body_in q fr)) fr.offset (fr.offset + x.size) x.opcode (depth_after x.effect fr.depth) (flow_at q fr x) (obeyed fr s x).flows)
 
-      by : Begins size_of (body_in q fr) fr.offset ⊎ (decoded_at q fr ≡ End) → (d : List Frame) × Step q (fr ∷ c) d
+      by : Begins size_of (body_in q fr) fr.offset ⊎ (decoded_at q fr ≡ Ok None) → (d : List Frame) × Step q (fr ∷ c) d
       by (inl b) =
           let p = place_at size_of (body_in q fr) fr.offset b.op b.size s.standing b.step in
           let k = acts_known known (marks_of size_of (body_in q fr)) (body_in q fr) (declared q fr) fr.offset fr.depth b.op b.size p.inside p.is_op p.is_size (holds fr s) in

@@ -5,7 +5,7 @@
 --     stuck_stays      and no step where there is a reason
 use Rattle.rules.specs.declared.Unknown as of-rules
 use Rattle.rules.specs.Look.{Known}
-use Rattle.std.specs.Prelude.{Ok, Err}
+use Rattle.std.specs.Prelude.{Ok, Err, Some, None}
 use Prim.Native.Nat.{ℕ, ◌+◌}
 use native.Mathlib.Omega.{arith}
 use mathlib.Core.Path.{◌≡◌, refl, sym, ap, ◌∙◌}
@@ -13,12 +13,13 @@ use mathlib.Core.List.{List, ◌∷◌}
 use mathlib.Core.Logic.{◌⊎◌, inl, inr, ⊎_elim}
 use lib.ListN.{length}
 use Rattle.tables.specs.Set.{size_of, move_of}
-use Rattle.flow.specs.declared.Step as decoding
-use Rattle.flow.specs.declared.Step.TheVariants.{End, Unknown, Truncated, Instruction}
+use Rattle.flow.specs.Decode as decoding
+use Rattle.flow.specs.declared.Instruction.{Instruction}
+use Rattle.flow.specs.declared.Stop.{Stop}
 use Rattle.flow.specs.declared.Flow.{Flow}
 use Rattle.flow.specs.declared.Flow.TheVariants.{Next, Jump, Branch, Return}
 use Rattle.flow.specs.declared.Spot.{Spot}
-use Rattle.flow.specs.Decode.{moved, target_of, Target}
+use Rattle.flow.specs.Decode.{found, moved, target_of, Target}
 use Rattle.flow.specs.Walk.{marks_of}
 use Rattle.program.specs.Program.{PoolProgram}
 use Rattle.effects.specs.Effects.{known_of}
@@ -52,7 +53,7 @@ module _ (q : PoolProgram) (fr : Frame) (below : List Frame) where
         by (Err spot) g = inr (no_target x word spot (inr e) g)
     flows Return e = inl (below, returns x e)
 
-  knows : (opcode size : ℕ) → decoded_at q fr ≡ Instruction opcode size → (k : Known) → known_of move_of q.program opcode (operands_in q fr size) ≡ k → Either
+  knows : (opcode size : ℕ) → decoded_at q fr ≡ found opcode size → (k : Known) → known_of move_of q.program opcode (operands_in q fr size) ≡ k → Either
   knows opcode size e (Ok f) g =
       let x : Acts q fr = record { opcode = opcode; size = size; effect = f; decodes = e; known = g } in
       flows x (flow_at q fr x) refl
@@ -60,23 +61,25 @@ module _ (q : PoolProgram) (fr : Frame) (below : List Frame) where
   knows opcode size e (Err (of-rules.Unknown.Callee id)) g = inr (no_callee opcode size id e g)
 
   decodes : (s : decoding.Step) → decoded_at q fr ≡ s → Either
-  decodes End e = inl (below, ends e)
-  decodes (Unknown byte) e = inr (unassigned byte e)
-  decodes (Truncated opcode) e = inr (cut opcode e)
-  decodes (Instruction opcode size) e = knows opcode size e (known_of move_of q.program opcode (operands_in q fr size)) refl
+  decodes (Ok None) e = inl (below, ends e)
+  decodes (Err (Stop.Unknown offset byte)) e = inr (unassigned offset byte e)
+  decodes (Err (Stop.Truncated offset opcode)) e = inr (cut offset opcode e)
+  decodes (Ok (Some i)) e = knows i.opcode i.size e (known_of move_of q.program i.opcode (operands_in q fr i.size)) refl
 
   pub step_or_stuck : Either
   step_or_stuck = decodes (decoded_at q fr) refl
 
 -- what decodes is one thing
-one_opcode : (s : decoding.Step) (op size op' size' : ℕ) → s ≡ Instruction op size → s ≡ Instruction op' size' → (op ≡ op') × (size ≡ size')
-one_opcode s op size op' size' e f = (cc, cc)
+one_opcode : (s : decoding.Step) (op size op' size' : ℕ) → s ≡ found op size → s ≡ found op' size' → (op ≡ op') × (size ≡ size')
+one_opcode s op size op' size' e f =
+    let i : ◌≡◌ {A = Instruction} (record { opcode = op; size = size }) (record { opcode = op'; size = size' }) = cc in
+    (ap (λ (i : Instruction). i.opcode) i, ap (λ (i : Instruction). i.size) i)
 
 -- an instruction stands at none of these places
-acts_not : (q : PoolProgram) (fr : Frame) (x : Acts q fr) (s : decoding.Step) → decoded_at q fr ≡ s → (s ≡ Instruction x.opcode x.size → ⊥) → ⊥
+acts_not : (q : PoolProgram) (fr : Frame) (x : Acts q fr) (s : decoding.Step) → decoded_at q fr ≡ s → (s ≡ found x.opcode x.size → ⊥) → ⊥
 acts_not q fr x s e n = n (sym e ∙ x.decodes)
 
-known_not : (q : PoolProgram) (fr : Frame) (x : Acts q fr) (opcode size : ℕ) (k : Known) → decoded_at q fr ≡ Instruction opcode size
+known_not : (q : PoolProgram) (fr : Frame) (x : Acts q fr) (opcode size : ℕ) (k : Known) → decoded_at q fr ≡ found opcode size
     → known_of move_of q.program opcode (operands_in q fr size) ≡ k → k ≡ Ok x.effect
 known_not q fr x opcode size k e g =
     let z = one_opcode (decoded_at q fr) opcode size x.opcode x.size e x.decodes in
@@ -107,8 +110,8 @@ module _ (q : PoolProgram) (fr : Frame) where
 
   -- at such a place no instruction is known and goes on
   acting : Stuck q fr → (y : Acts q fr) → ((to : ℕ) × Onward (marks_of size_of (body_in q fr)) (length (body_in q fr)) (fr.offset + y.size) (flow_at q fr y) to) ⊎ (flow_at q fr y ≡ Return) → ⊥
-  acting (unassigned byte e) y w = acts_not q fr y (Unknown byte) e (λ f. let z : ◌≡◌ {A = ℕ} 0 1 = cc in omega arith)
-  acting (cut opcode e) y w = acts_not q fr y (Truncated opcode) e (λ f. let z : ◌≡◌ {A = ℕ} 0 1 = cc in omega arith)
+  acting (unassigned offset byte e) y w = acts_not q fr y (Err (Stop.Unknown offset byte)) e (λ f. let z : ◌≡◌ {A = ℕ} 0 1 = cc in omega arith)
+  acting (cut offset opcode e) y w = acts_not q fr y (Err (Stop.Truncated offset opcode)) e (λ f. let z : ◌≡◌ {A = ℕ} 0 1 = cc in omega arith)
   acting (no_builtin opcode size id e g) y w = let f = known_not q fr y opcode size (Err (of-rules.Unknown.Builtin id)) e g in let z : ◌≡◌ {A = ℕ} 0 1 = cc in omega arith
   acting (no_callee opcode size id e g) y w = let f = known_not q fr y opcode size (Err (of-rules.Unknown.Callee id)) e g in let z : ◌≡◌ {A = ℕ} 0 1 = cc in omega arith
   acting (no_target x word spot f g) y w =
@@ -119,9 +122,9 @@ module _ (q : PoolProgram) (fr : Frame) where
       ⊎_elim (λ o. onward_not (marks_of size_of (body_in q fr)) (length (body_in q fr)) (fr.offset + y.size) (flow_at q fr y) word spot o.0 f' g' o.1)
       (λ r. turns_not (flow_at q fr y) word f' r) w
 
-  ending : Stuck q fr → decoded_at q fr ≡ End → ⊥
-  ending (unassigned byte e) f = let z : ◌≡◌ {A = ℕ} 0 1 = cc in omega arith
-  ending (cut opcode e) f = let z : ◌≡◌ {A = ℕ} 0 1 = cc in omega arith
+  ending : Stuck q fr → decoded_at q fr ≡ Ok None → ⊥
+  ending (unassigned offset byte e) f = let z : ◌≡◌ {A = ℕ} 0 1 = cc in omega arith
+  ending (cut offset opcode e) f = let z : ◌≡◌ {A = ℕ} 0 1 = cc in omega arith
   ending (no_builtin opcode size id e g) f = let z : ◌≡◌ {A = ℕ} 0 1 = cc in omega arith
   ending (no_callee opcode size id e g) f = let z : ◌≡◌ {A = ℕ} 0 1 = cc in omega arith
   ending (no_target x word spot t g) f = let e = x.decodes in let z : ◌≡◌ {A = ℕ} 0 1 = cc in omega arith

@@ -10,15 +10,15 @@
 --     Run         no or more steps, from an entry's frame
 --     live        the buffers of the open frames
 use Rattle.rules.specs.declared.Unknown as of-rules
-use Rattle.std.specs.Prelude.{ℕ, zero, suc, ◌+◌, ◌-◌, ◌≡◌, ◌⊎◌, List, [], ◌∷◌, length, Ok, Err}
+use Rattle.std.specs.Prelude.{ℕ, zero, suc, ◌+◌, ◌-◌, ◌≡◌, ◌⊎◌, List, [], ◌∷◌, length, Ok, Err, None}
 use Rattle.tables.specs.declared.Effect.{Effect}
 use Rattle.tables.specs.Set.{size_of, move_of}
-use Rattle.flow.specs.declared.Step as decoding
-use Rattle.flow.specs.declared.Step.TheVariants.{End, Unknown, Truncated, Instruction}
+use Rattle.flow.specs.Decode as decoding
+use Rattle.flow.specs.declared.Stop.{Stop}
 use Rattle.flow.specs.declared.Flow.{Flow}
 use Rattle.flow.specs.declared.Flow.TheVariants.{Next, Jump, Branch, Return}
 use Rattle.flow.specs.declared.Spot.{Spot}
-use Rattle.flow.specs.Decode.{step_by, operands_at, flow_of, moved, target_of}
+use Rattle.flow.specs.Decode.{found, step_by, operands_at, flow_of, moved, target_of}
 use Rattle.flow.specs.Walk.{marks_of}
 use Rattle.program.specs.Program.{PoolProgram, body_of}
 use Rattle.effects.specs.Effects.{known_of}
@@ -54,7 +54,7 @@ pub record Acts (q : PoolProgram) (fr : Frame) : Type 0 where
   pub opcode : ℕ
   pub size : ℕ
   pub effect : Effect
-  pub decodes : decoded_at q fr ≡ Instruction opcode size
+  pub decodes : decoded_at q fr ≡ found opcode size
   pub known : known_of move_of q.program opcode (operands_in q fr size) ≡ Ok effect
 
 -- "Each step applies the effects above to the top frame"; "taking more than the frame holds leaves 0 before the leaving"
@@ -89,15 +89,15 @@ pub data Step (q : PoolProgram) : List Frame → List Frame → Type 0 where
   goes : {fr : Frame} {below : List Frame} (x : Acts q fr) (to : ℕ) → GoesTo q fr x to
       → Step q (fr ∷ below) (opening (opens_of q x.opcode (operands_in q fr x.size)) (gone q fr x to ∷ below))
   returns : {fr : Frame} {below : List Frame} (x : Acts q fr) → flow_at q fr x ≡ Return → Step q (fr ∷ below) below
-  ends : {fr : Frame} {below : List Frame} → decoded_at q fr ≡ End → Step q (fr ∷ below) below
+  ends : {fr : Frame} {below : List Frame} → decoded_at q fr ≡ Ok None → Step q (fr ∷ below) below
 
 -- "It has no step only where nothing decodes, a builtin or callee is unknown, or a target is illegal" (proofs/Stuck.antt: there it has none, and
 -- everywhere else it has one)
 pub data Stuck (q : PoolProgram) (fr : Frame) : Type 0 where
-  unassigned : (byte : ℕ) → decoded_at q fr ≡ Unknown byte → Stuck q fr
-  cut : (opcode : ℕ) → decoded_at q fr ≡ Truncated opcode → Stuck q fr
-  no_builtin : (opcode size id : ℕ) → decoded_at q fr ≡ Instruction opcode size → known_of move_of q.program opcode (operands_in q fr size) ≡ Err (of-rules.Unknown.Builtin id) → Stuck q fr
-  no_callee : (opcode size id : ℕ) → decoded_at q fr ≡ Instruction opcode size → known_of move_of q.program opcode (operands_in q fr size) ≡ Err (of-rules.Unknown.Callee id) → Stuck q fr
+  unassigned : (offset byte : ℕ) → decoded_at q fr ≡ Err (Stop.Unknown offset byte) → Stuck q fr
+  cut : (offset opcode : ℕ) → decoded_at q fr ≡ Err (Stop.Truncated offset opcode) → Stuck q fr
+  no_builtin : (opcode size id : ℕ) → decoded_at q fr ≡ found opcode size → known_of move_of q.program opcode (operands_in q fr size) ≡ Err (of-rules.Unknown.Builtin id) → Stuck q fr
+  no_callee : (opcode size id : ℕ) → decoded_at q fr ≡ found opcode size → known_of move_of q.program opcode (operands_in q fr size) ≡ Err (of-rules.Unknown.Callee id) → Stuck q fr
   no_target : (x : Acts q fr) (word : ℕ) (spot : Spot) → (flow_at q fr x ≡ Jump word) ⊎ (flow_at q fr x ≡ Branch word)
       → target_of (marks_of size_of (body_in q fr)) (length (body_in q fr)) (moved (fr.offset + x.size) word) ≡ Err spot → Stuck q fr
 

@@ -1,7 +1,6 @@
 -- What demand 3 says of every configuration of a run, a field for each of its clauses in its order, of all open frames and not only the top one.
 -- Assumes nothing: these are definitions.
-use Rattle.std.specs.Prelude.{ℕ, ◌+◌, ◌≤◌, ◌≡◌, Bool, true, false, ◌⊎◌, List, [], ◌∷◌, eqb, get_or}
-use Rattle.flow.specs.declared.Step.TheVariants.{End}
+use Rattle.std.specs.Prelude.{ℕ, ◌+◌, ◌≤◌, ◌≡◌, Bool, true, false, ◌⊎◌, List, [], ◌∷◌, eqb, get_or, Ok, None}
 use Rattle.flow.specs.declared.Flow.TheVariants.{Return}
 use Rattle.program.specs.Program.{PoolProgram}
 use Rattle.machine.specs.Machine.{Frame, Acts, depth_after, decoded_at, flow_at, Step, live}
@@ -32,7 +31,7 @@ pub record Safe (q : PoolProgram) (c : List Frame) : Type 0 where
   -- "exits at a wrong depth": RET closes its frame at 1, RET_VOID and the body's end at 0
   pub returns : (fr : Frame) → Open fr c → (x : Acts q fr) → flow_at q fr x ≡ Return
       → ((x.opcode ≡ 0x88) × (depth_after x.effect fr.depth ≡ 1)) ⊎ ((x.opcode ≡ 0x8C) × (depth_after x.effect fr.depth ≡ 0))
-  pub ends : (fr : Frame) → Open fr c → decoded_at q fr ≡ End → fr.depth ≡ 0
+  pub ends : (fr : Frame) → Open fr c → decoded_at q fr ≡ Ok None → fr.depth ≡ 0
   -- "opens a function twice"
   pub once : (row : ℕ) → frames_of row c ≤ 1
   -- "holds more buffers than the pool"
