@@ -1,6 +1,6 @@
 -- What putting a successor does to the columns, case by case: it gets a depth and joins the queue, it has that depth already, or 8.
 -- Assumes nothing.
-use Rattle.std.specs.Prelude.{Result, Ok, Err}
+use Rattle.std.specs.Prelude.{Result, Ok, Err, Some}
 use Prim.Native.Nat.{ℕ, ◌+◌, ◌-◌, ◌≤◌, ◌<◌}
 use native.Mathlib.Numerals.{add-one}
 use native.Mathlib.Omega.{arith}
@@ -19,7 +19,6 @@ use Rattle.rules.proofs.Bound.{look_bounded}
 use Rattle.rules.proofs.Counting.{count_room, count_set}
 use Rattle.rules.proofs.Queue.{put_new, put_same, put_clash}
 use Rattle.stack.specs.declared.queue.Meeting.{Meeting}
-use Rattle.stack.specs.declared.queue.Turn.{Turn}
 use Rattle.stack.specs.Columns.{meet_of, Ready, Puts, Turns, Fitting}
 
 -- what each meeting says of the depth on record, and of the definition
@@ -56,20 +55,20 @@ module _ (d q : List ℕ) (tail to out : ℕ) (ready : Ready d q tail) (within :
       let r = ready_on e in
       record { small = r.small; room = r.room; counted = omega (arith, r) }
 
-  pub put_joins : get_or d to 0 ≡ 0 → Puts tail (Ok (tail + 1)) (set d to (out + 1)) (set q tail to) (put d (take tail q) to out)
+  pub put_joins : get_or d to 0 ≡ 0 → Puts tail (Ok tt) (tail + 1) (set d to (out + 1)) (set q tail to) (put d (take tail q) to out)
   put_joins e =
       let t : take (tail + 1) (set q tail to) ≡ take tail q ++ (to ∷ []) = ap (λ (n : ℕ). take n (set q tail to)) (add-one tail) ∙ take-suc-set q tail to (room e) in
       let r = ready_on e in
       let n = length-set q tail to in
       (put_new d (take tail q) to out e ∙ ap (go (set d to (out + 1))) (sym t), (record { small = r.small; room = omega (arith, r); counted = r.counted }, omega arith))
 
-  pub put_stays : get_or d to 0 ≡ out + 1 → Puts tail (Ok tail) d q (put d (take tail q) to out)
+  pub put_stays : get_or d to 0 ≡ out + 1 → Puts tail (Ok tt) tail d q (put d (take tail q) to out)
   put_stays e = (put_same d (take tail q) to out e, (ready, omega arith))
 
   -- a single successor of an empty queue
-  pub put_on : out < 65536 → get_or d to 0 ≡ 0 → Turns true tail q (Ok (Turn.On to out)) (set d to (out + 1)) q (put d (take tail q) to out)
+  pub put_on : out < 65536 → get_or d to 0 ≡ 0 → Turns true tail q (Ok (Some (record { offset = to; depth = out }))) tail (set d to (out + 1)) q (put d (take tail q) to out)
   put_on small e =
-      (refl, (put_new d (take tail q) to out e, (refl, (get_or-set_same d to (out + 1) 0 within, (small, ready_still e)))))
+      (refl, (refl, (put_new d (take tail q) to out e, (refl, (get_or-set_same d to (out + 1) 0 within, (small, ready_still e))))))
 
 -- a wider bound on depths
 bounded_le : (n x y : ℕ) (seen : Look) → x ≤ y → Bounded n x seen → Bounded n y seen

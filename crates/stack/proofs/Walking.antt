@@ -1,7 +1,7 @@
 -- The walk's loop over its columns, for any rules: the definition, run from the entry in hand and what is left of the queue, gives what it gives
 -- from the start. A law for each way that a turn can go.
 -- Assumes nothing.
-use Rattle.std.specs.Prelude.{Ok, Err}
+use Rattle.std.specs.Prelude.{Ok, Err, Some, None}
 use Prim.Native.Nat.{ℕ, ◌+◌, ◌-◌, ◌≤◌, ◌<◌}
 use native.Mathlib.Omega.{arith}
 use mathlib.Core.Path.{◌≡◌, refl, ◌∙◌, ap, sym}
@@ -13,7 +13,7 @@ use Rattle.rules.specs.Walk.{stop, go, follow, walk_from, begun, walk_of}
 use Rattle.rules.proofs.Counting.{count_le, length_begun, count_begun, begun_first}
 use Rattle.rules.proofs.Queue.{loop_stop, loop_go, loop_empty, loop_on, walk_over, walk_begun}
 use Rattle.rules.specs.Look.{Look}
-use Rattle.stack.specs.declared.queue.Turn.{Turn}
+use Rattle.stack.specs.declared.queue.Reached.{Reached}
 use Rattle.stack.specs.Columns.{Ready, Turns}
 
 pub record Walking (rule : ℕ → ℕ → Look) (n : ℕ) (depths queue : List ℕ) (head tail offset depth left : ℕ) : Type 0 where
@@ -52,7 +52,7 @@ module _ (rule : ℕ → ℕ → Look) (n : ℕ) (depths queue : List ℕ) (head
     pub walking_stop : (v : Violation) → follow depths (take tail queue) (rule offset depth) ≡ stop v → Err v ≡ walk_of rule n
     walking_stop v e = sym (loop_stop rule depths queue offset depth head tail (rule offset depth) w.deep refl w.behind room left v more e) ∙ w.goes_on
 
-    module _ (end : ℕ) (long : length d ≡ length depths) (turn : Turns (true) tail queue (Ok (Turn.Go end)) d q (follow depths (take tail queue) (rule offset depth))) where
+    module _ (end : ℕ) (long : length d ≡ length depths) (turn : Turns (true) tail queue (Ok None) end d q (follow depths (take tail queue) (rule offset depth))) where
       pub walking_empty : end ≤ head → Ok tt ≡ walk_of rule n
       walking_empty h =
           let l = tail_in d q end turn.1.0 in
@@ -71,9 +71,10 @@ module _ (rule : ℕ → ℕ → Look) (n : ℕ) (depths queue : List ℕ) (head
             goes_on = ap (λ (k : ℕ). walk_from rule (left - 1) d (k ∷ drop (head + 1) (take end q))) e ∙ sym g ∙ w.goes_on;
           }
 
-    pub walking_on : (to out : ℕ) → length d ≡ length depths → head ≡ tail → Turns true tail queue (Ok (Turn.On to out)) d q (follow depths (take tail queue) (rule offset depth)) → Walking rule n d q head tail to out (left - 1)
-    walking_on to out long h turn =
-        let t = turn.1 in
+    pub walking_on : (r : Reached) (end : ℕ) → length d ≡ length depths → head ≡ tail → Turns true tail queue (Ok (Some r)) end d q (follow depths (take tail queue) (rule offset depth)) → Walking rule n d q head tail r.offset r.depth (left - 1)
+    walking_on r end long h turn =
+        let to = r.offset in
+        let t = turn.1.1 in
         let g = loop_on rule depths queue offset depth head tail (rule offset depth) w.deep refl w.behind room left d to more h (t.0 ∙ ap (λ (u : List ℕ). go d (take tail u ++ (to ∷ []))) t.1.0) in
         record {
           long = long ∙ w.long;

@@ -1,6 +1,5 @@
 pub mod Moves
 pub mod Columns
-pub mod Ends
 pub mod Stack
 pub mod Exact
 pub mod Examples

@@ -4,7 +4,6 @@ ghost use Rattle.rules.specs.declared.Onward.{Onward};
 ghost use Rattle.rules.specs.Look.{Bounded};
 ghost use Rattle.rules.specs.Walk.{put, follow};
 ghost use Rattle.stack.specs.Columns.{meet_of, Ready, Puts, Turns};
-ghost use Rattle.stack.specs.Ends.{ending, Ends};
 
 use rules::{Onward, Violation};
 
@@ -15,11 +14,11 @@ pub enum Meeting {
     Same,
 }
 
-// How the walk goes on after a turn: with this entry at once, or with the queue up to its new end.
+// An offset that is reached, with its depth.
 #[derive(Clone, Copy, PartialEq, Eq, Debug)]
-pub enum Turn {
-    On { to: usize, out: u64 },
-    Go(usize),
+pub struct Reached {
+    pub offset: usize,
+    pub depth: u64,
 }
 
 // The first `tail` places have joined. Fewer have joined than have a depth, so that there is room for each that gets one.
@@ -55,7 +54,7 @@ impl Queue<'_> {
     // A successor without a depth gets one and joins the queue.
     fn put(&mut self, to: usize, out: u64) -> Result<(), Violation>
         requires to_in_bounds { (to < length self.old.depths.now) × (out < 65536) }
-        ensures puts { Puts self.old.tail (ending result self.new.tail) self.new.depths.now self.new.places.now (put self.old.depths.now (take self.old.tail self.old.places.now) to out) }
+        ensures puts { Puts self.old.tail result self.new.tail self.new.depths.now self.new.places.now (put self.old.depths.now (take self.old.tail self.old.places.now) to out) }
         ensures same { length self.new.depths.now ≡ length self.old.depths.now }
     {
         let meeting = self.meet(to, out)?;
@@ -71,18 +70,21 @@ impl Queue<'_> {
     }
 
     // The single successor of an empty queue never enters it: joining and leaving it again would give the same.
-    fn straight_on(&mut self, to: usize, out: u64) -> Result<Turn, Violation>
+    fn straight_on(&mut self, to: usize, out: u64) -> Result<Option<Reached>, Violation>
         requires to_in_bounds { (to < length self.old.depths.now) × (out < 65536) }
-        ensures turns { Turns true self.old.tail self.old.places.now result self.new.depths.now self.new.places.now (put self.old.depths.now (take self.old.tail self.old.places.now) to out) }
-        ensures ends { Ends self.old.tail result self.new.tail × (length self.new.depths.now ≡ length self.old.depths.now) }
+        ensures turns { Turns true self.old.tail self.old.places.now result self.new.tail self.new.depths.now self.new.places.now (put self.old.depths.now (take self.old.tail self.old.places.now) to out) }
+        ensures same { length self.new.depths.now ≡ length self.old.depths.now }
     {
         let meeting = self.meet(to, out)?;
         match meeting {
             Meeting::New => {
                 self.depths[to] = (out + 1) as u32;
-                Ok(Turn::On { to, out })
+                Ok(Some(Reached {
+                    offset: to,
+                    depth: out,
+                }))
             }
-            Meeting::Same => Ok(Turn::Go(self.tail)),
+            Meeting::Same => Ok(None),
         }
     }
 
@@ -90,47 +92,46 @@ impl Queue<'_> {
     #[tactic(auto, unfolding(rules::specs::Walk::follow))]
     fn put_both(&mut self, to: usize, next: usize, out: u64) -> Result<(), Violation>
         requires to_in_bounds { (to < length self.old.depths.now) × ((next < length self.old.depths.now) × (out < 65536)) }
-        ensures puts { Puts self.old.tail (ending result self.new.tail) self.new.depths.now self.new.places.now (follow self.old.depths.now (take self.old.tail self.old.places.now) (Ok (Onward.Forks out to next))) }
+        ensures puts { Puts self.old.tail result self.new.tail self.new.depths.now self.new.places.now (follow self.old.depths.now (take self.old.tail self.old.places.now) (Ok (Onward.Forks out to next))) }
         ensures same { length self.new.depths.now ≡ length self.old.depths.now }
     {
         self.put(to, out)?;
         self.put(next, out)
     }
 
-    // What follows where no rule is broken; `alone` where nothing waits in the queue.
+    // What follows where no rule is broken: an entry to go on with at once, or the queue. `alone` says that nothing waits there.
     #[tactic(auto, unfolding(rules::specs::Walk::follow))]
-    pub(crate) fn follow_on(&mut self, alone: bool, onward: Onward) -> Result<Turn, Violation>
+    pub(crate) fn follow_on(
+        &mut self,
+        alone: bool,
+        onward: Onward,
+    ) -> Result<Option<Reached>, Violation>
         requires { Bounded (length self.old.depths.now) 65535 (Ok onward) }
-        ensures turns { Turns alone self.old.tail self.old.places.now result self.new.depths.now self.new.places.now (follow self.old.depths.now (take self.old.tail self.old.places.now) (Ok onward)) }
-        ensures ends { Ends self.old.tail result self.new.tail × (length self.new.depths.now ≡ length self.old.depths.now) }
+        ensures turns { Turns alone self.old.tail self.old.places.now result self.new.tail self.new.depths.now self.new.places.now (follow self.old.depths.now (take self.old.tail self.old.places.now) (Ok onward)) }
+        ensures same { length self.new.depths.now ≡ length self.old.depths.now }
     {
         match onward {
-            Onward::Leaves => Ok(Turn::Go(self.tail)),
+            Onward::Leaves => Ok(None),
             Onward::Goes { out, to } => {
                 if alone {
                     return self.straight_on(to, out);
                 }
                 self.put(to, out)?;
-                Ok(Turn::Go(self.tail))
+                Ok(None)
             }
             Onward::Forks { out, to, next } => {
                 self.put_both(to, next, out)?;
-                Ok(Turn::Go(self.tail))
+                Ok(None)
             }
         }
     }
 
-    // The offset that joined at a place.
-    pub(crate) fn offset_at(&self, place: usize) -> usize
-        ensures { result ≡ get_or self.now.places.now place 0 }
+    // The entry that joined at a place, with its depth on record.
+    pub(crate) fn entry_at(&self, place: usize) -> Reached
+        ensures { (result.offset ≡ get_or self.now.places.now place 0) × ((result.depth ≡ get_or self.now.depths.now result.offset 0 - 1) × (result.depth < 4294967296)) }
     {
-        usize::from(cells::at(self.places, place))
-    }
-
-    // The depth on record at an offset that has one.
-    pub(crate) fn depth_at(&self, offset: usize) -> u64
-        ensures { (result ≡ get_or self.now.depths.now offset 0 - 1) × (result < 4294967296) }
-    {
-        u64::from(cells::at(self.depths, offset)).saturating_sub(1)
+        let offset = usize::from(cells::at(self.places, place));
+        let depth = u64::from(cells::at(self.depths, offset)).saturating_sub(1);
+        Reached { offset, depth }
     }
 }

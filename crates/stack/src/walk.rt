@@ -4,14 +4,13 @@ ghost use Rattle.rules.specs.Look.{look_of};
 ghost use Rattle.rules.specs.Walk.{follow, begun, walk_of};
 ghost use Rattle.effects.specs.Stated.{known_in};
 ghost use Rattle.stack.specs.Columns.{Turns, Fitting};
-ghost use Rattle.stack.specs.Ends.{Ends};
 
 use crate::look::look;
 use crate::program_rules::Rules;
-use crate::queue::{Queue, Turn};
+use crate::queue::{Queue, Reached};
 use rules::Violation;
 
-// One turn of the walk, at the offset in hand and its depth.
+// One turn of the walk, at the entry in hand.
 #[tactic(auto, unfolding(rules::specs::Walk::follow))]
 fn turn_at(
     queue: &mut Queue<'_>,
@@ -20,15 +19,14 @@ fn turn_at(
     body: &[u8],
     maximum: u16,
     alone: bool,
-    offset: usize,
-    depth: u64,
-) -> Result<Turn, Violation>
+    entry: Reached,
+) -> Result<Option<Reached>, Violation>
     requires long { length queue.old.depths.now ≡ length body.now + 1 }
-    requires fits { Fitting marks.now body.now × (depth < 4294967296) }
-    ensures turns { Turns alone queue.old.tail queue.old.places.now result queue.new.depths.now queue.new.places.now (follow queue.old.depths.now (take queue.old.tail queue.old.places.now) (look_of (known_in rules.now.sources) marks.now body.now maximum offset depth)) }
-    ensures ends { Ends queue.old.tail result queue.new.tail × (length queue.new.depths.now ≡ length queue.old.depths.now) }
+    requires fits { Fitting marks.now body.now × (entry.depth < 4294967296) }
+    ensures turns { Turns alone queue.old.tail queue.old.places.now result queue.new.tail queue.new.depths.now queue.new.places.now (follow queue.old.depths.now (take queue.old.tail queue.old.places.now) (look_of (known_in rules.now.sources) marks.now body.now maximum entry.offset entry.depth)) }
+    ensures same { length queue.new.depths.now ≡ length queue.old.depths.now }
 {
-    let onward = look(rules, marks, body, maximum, offset, depth)?;
+    let onward = look(rules, marks, body, maximum, entry.offset, entry.depth)?;
     queue.follow_on(alone, onward)
 }
 
@@ -52,27 +50,21 @@ pub(crate) fn walk(
         tail: 0,
     };
     let mut head: usize = 0;
-    let mut offset: usize = 0;
-    let mut depth: u64 = 0;
+    let mut entry = Reached {
+        offset: 0,
+        depth: 0,
+    };
     for i in 0..body.len() + 1 {
         let alone = head == queue.tail;
-        let turn = turn_at(
-            &mut queue, rules, marks, body, maximum, alone, offset, depth,
-        )?;
-        match turn {
-            Turn::On { to, out } => {
-                offset = to;
-                depth = out;
-            }
-            Turn::Go(end) => {
-                if end <= head {
-                    return Ok(());
-                }
-                offset = queue.offset_at(head);
-                depth = queue.depth_at(offset);
-                head += 1;
-            }
+        if let Some(next) = turn_at(&mut queue, rules, marks, body, maximum, alone, entry)? {
+            entry = next;
+            continue;
         }
+        if queue.tail <= head {
+            return Ok(());
+        }
+        entry = queue.entry_at(head);
+        head += 1;
     }
     Ok(())
 }

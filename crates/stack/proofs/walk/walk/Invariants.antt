@@ -8,4 +8,4 @@ use Rattle.stack.proofs.Walking.{Walking}
 use Rattle.stack.proofs.walk.walk.Given as goal
 
 abbrev pub invariant-loop-i : goal.invariant-loop-i
-invariant-loop-i l = Walking (look_of (known_in l.rules.sources) l.marks l.body l.maximum) (length l.body + 1) l.queue.depths.now l.queue.places.now l.head l.queue.tail l.offset l.depth (length l.body + 1 - l.i)
+invariant-loop-i l = Walking (look_of (known_in l.rules.sources) l.marks l.body l.maximum) (length l.body + 1) l.queue.depths.now l.queue.places.now l.head l.queue.tail l.entry.offset l.entry.depth (length l.body + 1 - l.i)
