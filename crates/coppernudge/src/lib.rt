@@ -28,7 +28,8 @@ fn twelve(checked: &Checked) -> [u32; 12]
     ]
 }
 
-// Every word as four bytes, low byte first, over the front of the buffer.
+// Every word as four bytes, low byte first, over the front of the buffer. A store for each byte, so that one can be wrong (must-fail edit
+// middle_bytes_swapped).
 fn put_words(out: &mut [u8], words: &[u32])
     requires { 4 * length words.now ≤ length out.old }
     ensures { out.new ≡ over (bytes_of words.now) out.old }

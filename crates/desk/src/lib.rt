@@ -40,6 +40,7 @@ fn both_checks(program: &PoolProgram<'_>) -> Checked
 }
 
 // The pool call's refusals come before either check, so that 35 stops both.
+#[tactic(auto, using(crate::proofs::DeskLaws::taken), unfolding(crate::specs::Desk::full_room, crate::specs::Desk::program_answer, crate::specs::Desk::on_input))]
 fn check_program(program: &PoolProgram<'_>) -> Result<Checked, Refused>
     ensures { result ≡ program_answer (pool_program_in program.now) }
 {
@@ -49,12 +50,10 @@ fn check_program(program: &PoolProgram<'_>) -> Result<Checked, Refused>
         queue: 24578,
         queue_depths: 24578,
     };
-    if let Err(refusal) = program::pool_input(program, room, 16384) {
-        return Err(Refused {
-            number: refusal.number(),
-            place: refusal.place(),
-        });
-    }
+    program::pool_input(program, room, 16384).map_err(|refusal| Refused {
+        number: refusal.number(),
+        place: refusal.place(),
+    })?;
     Ok(both_checks(program))
 }
 

@@ -33,7 +33,8 @@ impl Sources<'_> {
         Ok(Effect::new(listed.count, 1))
     }
 
-    // CALL and METHOD_CALL take the callee's parameter count. CALL leaves 1, METHOD_CALL what the callee gives back.
+    // CALL and METHOD_CALL take the callee's parameter count. CALL leaves 1, METHOD_CALL what the callee gives back. No closure for
+    // what is left: its contract would be longer than this body.
     #[tactic(auto, unfolding(crate::specs::Effects::call_by, crate::specs::Effects::method_by))]
     fn call_effect(&self, callee: FunctionId, is_method: bool) -> Result<Effect, Unknown>
         ensures { result ≡ cond is_method (method_by self.now.program.functions.ids.now self.now.program.functions.parameters.now self.now.given.now callee.0) (call_by self.now.program.functions.ids.now self.now.program.functions.parameters.now callee.0) }

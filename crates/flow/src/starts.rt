@@ -26,7 +26,6 @@ pub fn mark_starts(marks: &mut [u8], sizes: &[u8; 256], body: &[u8]) -> Result<(
     ensures { (result ≡ end_of (walk_by (size_in sizes.now) body.now 0)) × (marks.new ≡ mark_all (walk_by (size_in sizes.now) body.now 0) marks.old) }
 {
     let mut at = mark_ones(marks, sizes, body, 0);
-    // No `for`: each turn goes on by an instruction's size.
     while let Some(instruction) = decode_step(sizes, body, at)? {
         cells::put(marks, at, instruction.size);
         at = mark_ones(marks, sizes, body, at + usize::from(instruction.size));

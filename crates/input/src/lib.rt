@@ -10,6 +10,7 @@ pub fn read_full<R: Read>(input: &mut R, bytes: &mut [u8]) -> usize
     ensures { result ≤ length bytes.new }
 {
     let mut done = 0;
+    // No `for`: each turn goes on by what came.
     while done < bytes.len() {
         match input.read(&mut bytes[done..]) {
             Ok(0) | Err(_) => break,

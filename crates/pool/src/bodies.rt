@@ -11,7 +11,8 @@ use crate::walk::walk;
 use buffers::{Unwalked, Usage};
 use program::Scratch;
 
-// Decoded, then walked, over scratch of the body's size.
+// Decoded, then walked, over columns cut to the body's size. The stack check's bodies have this shape too, and nothing else in common: they lend other
+// columns, walk by another definition and promise other things.
 fn run(
     marks: &mut [u8],
     numbers: &mut [u32],
@@ -81,7 +82,8 @@ pub struct Usages {
     pub peaks: [usize; 128],
 }
 
-// Functions in directory order: the first whose walk gives 22 or 23 ends the call.
+// Functions in directory order: the first whose walk gives 22 or 23 ends the call. No `map_err`: a closure that borrows the row hides it from the
+// invariant.
 pub(crate) fn all(
     scratch: &mut Scratch<'_>,
     cells: &mut [u8],

@@ -1,11 +1,10 @@
 // The leaves for the tests of other languages: each function hands numbers and slices to a leaf and packs what it answers into one number,
-// as tests/driver/probe.h says. Nothing here is part of the product.
+// as tests/driver/probe.h says: C lends every column apart. Nothing here is part of the product.
 #![tactic(auto)]
 
 use answers::Fields;
 use codes::CodeList;
-use flow::Flow;
-use flow::Stop;
+use flow::{Flow, Stop};
 use program::{Descriptors, Functions, PoolProgram, Program, Scratch};
 
 // An offset, shifted by two bits to make room for a kind. No body is as long as 2 to the power of 30.

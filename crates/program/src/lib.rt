@@ -92,6 +92,7 @@ impl Scratch<'_> {
 }
 
 impl Refusal {
+    // 01's number, which is none of the enum's own.
     pub fn number(self) -> u32
         ensures { result ≡ refusal_number self }
     {
@@ -170,12 +171,11 @@ fn directory(
 }
 
 // 34, then 32 and 33, and then `rest`.
+#[tactic(auto, unfolding(crate::specs::Refusals::contents_of))]
 fn contents(program: &Program<'_>, rest: Result<(), Refusal>) -> Result<(), Refusal>
     ensures { result ≡ contents_of (program_in program.now).list (program_in program.now).functions (length program.now.code.now) rest }
 {
-    if let Err(row) = codes::check_rows(program.list.ids, program.list.flags) {
-        return Err(Refusal::ListFault(row));
-    }
+    codes::check_rows(program.list.ids, program.list.flags).map_err(Refusal::ListFault)?;
     directory(&program.functions, program.code.len(), rest)
 }
 

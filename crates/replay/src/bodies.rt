@@ -1,8 +1,7 @@
 // bodies.bin and targets.bin: how bodies decode, where their instructions start, whether RET is among them, and where branches lead.
 use crate::tally;
 use crate::tally::Tally;
-use flow::Stop;
-use flow::{Flow, Spot};
+use flow::{Flow, Spot, Stop};
 
 // How decoding ends as its entry has it.
 fn recorded_end(outcome: u8, offset: usize, byte: u8) -> Option<Result<(), Stop>> {
@@ -40,6 +39,7 @@ pub fn replay(data: &[u8]) -> Tally {
     tally::each(data, |at| body_entry(&sizes, data, at))
 }
 
+// Compared with the two numbers of the file's entry.
 fn same_target(target: Result<usize, Spot>, legal: u8, recorded: u32) -> bool {
     match target {
         Ok(to) => legal == 1 && to == recorded as usize,

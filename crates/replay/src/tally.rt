@@ -22,6 +22,7 @@ pub(crate) fn each<F: Fn(usize) -> (usize, bool)>(data: &[u8], entry: F) -> Tall
 {
     let mut tally = Tally::default();
     let mut at: usize = 0;
+    // No `for`: each turn goes on by an entry's length.
     while at < data.len() {
         let (length, same) = entry(at);
         if length == 0 || data.len() - at < length {

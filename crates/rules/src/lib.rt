@@ -5,8 +5,7 @@
 ghost use Rattle.std.specs.Prelude.{◌≡◌};
 ghost use Rattle.rules.specs.Stops.{of_stop};
 
-use flow::Spot;
-use flow::Stop;
+use flow::{Spot, Stop};
 
 // Why an instruction has no effect in its program: no row of the code list, or of the directory, has the id that it names.
 #[derive(Clone, Copy, PartialEq, Eq, Debug)]

@@ -12,7 +12,7 @@ use crate::program_rules::Rules;
 use crate::walk::walk;
 use rules::Violation;
 
-// Both phases, over scratch of the body's size.
+// Both phases, over columns cut to the body's size, which no `Scratch` can say.
 #[tactic(auto, using(cells::specs::Zeros::length_zeros, crate::proofs::Running::body_walks, crate::proofs::Running::marks_fitting, crate::proofs::Running::begins_walk), unfolding(crate::specs::Stack::body_answer))]
 fn run(
     marks: &mut [u8],
@@ -61,7 +61,8 @@ fn one(
     walked
 }
 
-// Functions in directory order.
+// Functions in directory order. No `Scratch` and no `map_err`: the rules read its last column while the others change, and a closure that borrows the
+// row hides it from the invariant.
 #[tactic(auto, using(crate::proofs::Running::going_cleared, crate::proofs::Running::going_room, crate::proofs::Running::roomy_part))]
 pub(crate) fn all(
     marks: &mut [u8],

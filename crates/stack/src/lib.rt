@@ -40,8 +40,8 @@ impl From<Refusal> for Fault {
 }
 
 // The bodies of an input that is not refused, over scratch that may hold anything: what each function gives back is decoded once, all scratch
-// is cleared once. The walk queues no depths, so the second queue column holds the hints of the code list; any hints will do, so it need not be
-// cleared before.
+// is cleared once. The walk queues no depths, so the second queue column holds the hints of the code list, and the columns come apart; any hints will
+// do, so it need not be cleared before.
 #[tactic(auto, using(crate::proofs::Calling::words_go_on))]
 fn checked(
     marks: &mut [u8],

@@ -54,7 +54,7 @@ fn total(graph: &CallGraph<'_>, f: usize, mut state: State) -> Result<(u16, Stat
     Ok((sum, state))
 }
 
-// The largest total among the callees of f, along its row.
+// The largest total among the callees of f, along its row. No iterator over the known ones: the state is handed on from callee to callee.
 #[cycle(largest_total)]
 fn largest(graph: &CallGraph<'_>, f: usize, mut state: State) -> Result<(u16, State), Overrun>
     requires { (f < 128) × Kept (graph_of graph.now) graph.now.pool state }
