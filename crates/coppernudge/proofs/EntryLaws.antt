@@ -33,14 +33,13 @@ module _ (file buffer : List ℕ) (room : 48 ≤ length buffer) where
   checked c words after e w a = rw (le-ltb _ _ room, e, a, w)
 
 -- the loop: so many words are in their places
-pub record Putting (out₀ words out : List ℕ) (at i : ℕ) : Type 0 where
+pub record Putting (out₀ words out : List ℕ) (i : ℕ) : Type 0 where
   pub within : i ≤ length words
-  pub place : at ≡ 4 * i
   pub len : length out ≡ length out₀
-  pub goes_on : laid out at (bytes_of (drop i words)) ≡ over (bytes_of words) out₀
+  pub goes_on : laid out (4 * i) (bytes_of (drop i words)) ≡ over (bytes_of words) out₀
 
-pub begins : (out words : List ℕ) → Putting out words out 0 0
-begins out words = record { within = omega arith; place = refl; len = refl; goes_on = laid_start out (bytes_of words) }
+pub begins : (out words : List ℕ) → Putting out words out 0
+begins out words = record { within = omega arith; len = refl; goes_on = laid_start out (bytes_of words) }
 
 -- a word's four bytes, stored
 abbrev pub stored : List ℕ → ℕ → ℕ → List ℕ
@@ -76,17 +75,18 @@ bytes_next : (words : List ℕ) (i : ℕ) → i < length words →
 unfolding bytes_of
 bytes_next words i h = rw (add-one i) (ap bytes_of (drop-cons words i 0 h))
 
-pub turns : {out₀ words out : List ℕ} {at i : ℕ} → 4 * length words ≤ length out₀ → i < length words → Putting out₀ words out at i →
-    Putting out₀ words (stored out at (get_or words i 0)) (at + 4) (i + 1)
-turns {out₀} {words} {out} {at} {i} room h v =
+pub turns : {out₀ words out : List ℕ} {i : ℕ} → 4 * length words ≤ length out₀ → i < length words → Putting out₀ words out i →
+    Putting out₀ words (stored out (4 * i) (get_or words i 0)) (i + 1)
+turns {out₀} {words} {out} {i} room h v =
     let w = get_or words i 0 in
+    let rest : List ℕ = bytes_of (drop (i + 1) words) in
+    let next : 4 * (i + 1) ≡ 4 * i + 4 = omega arith in
     record {
       within = omega arith;
-      place = omega (arith, v.place);
-      len = stored_length out at w ∙ v.len;
+      len = stored_length out (4 * i) w ∙ v.len;
       goes_on =
-          stored_laid out (bytes_of (drop (i + 1) words)) at w (omega (arith, v.place, v.len))
-          ∙ (ap (laid out at) (sym (bytes_next words i (omega arith))) ∙ v.goes_on);
+          ap (λ (n : ℕ). laid (stored out (4 * i) w) n rest) next
+          ∙ (stored_laid out rest (4 * i) w (omega (arith, v.len)) ∙ (ap (laid out (4 * i)) (sym (bytes_next words i (omega arith))) ∙ v.goes_on));
     }
 
 none_left : (words : List ℕ) (i : ℕ) → length words ≤ i → bytes_of (drop i words) ≡ []
@@ -99,8 +99,8 @@ none_left [] i h = ap bytes_of (nothing i)
 none_left (w ∷ words) zero h = absurd (omega arith)
 none_left (w ∷ words) (suc i) h = none_left words i (omega arith)
 
-pub done : {out₀ words out : List ℕ} {at i : ℕ} → length words ≤ i → Putting out₀ words out at i → out ≡ over (bytes_of words) out₀
-done {out₀} {words} {out} {at} {i} h v = laid_done out (over (bytes_of words) out₀) at (bytes_of (drop i words)) (none_left words i h) v.goes_on
+pub done : {out₀ words out : List ℕ} {i : ℕ} → length words ≤ i → Putting out₀ words out i → out ≡ over (bytes_of words) out₀
+done {out₀} {words} {out} {i} h v = laid_done out (over (bytes_of words) out₀) (4 * i) (bytes_of (drop i words)) (none_left words i h) v.goes_on
 
 pub twelve_length : (s p : Fields) → length (twelve_of s p) ≡ 12
 unfolding twelve_of

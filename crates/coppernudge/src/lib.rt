@@ -28,19 +28,17 @@ fn twelve(checked: &Checked) -> [u32; 12]
     ]
 }
 
-// Every word as four bytes, low byte first, over the front of the buffer. A store for each byte, so that one can be wrong (must-fail edit
-// middle_bytes_swapped).
+// Every word as four bytes, low byte first, over the front of the buffer.
 fn put_words(out: &mut [u8], words: &[u32])
     requires { 4 * length words.now ≤ length out.old }
     ensures { out.new ≡ over (bytes_of words.now) out.old }
 {
-    let mut at = 0;
-    for &word in words {
+    for (i, &word) in words.iter().enumerate() {
+        let at = 4 * i;
         out[at] = (word % 256) as u8;
         out[at + 1] = (word / 256 % 256) as u8;
         out[at + 2] = (word / 65536 % 256) as u8;
         out[at + 3] = (word / 16777216 % 256) as u8;
-        at += 4;
     }
 }
 

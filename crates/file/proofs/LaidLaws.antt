@@ -7,7 +7,8 @@ use native.Mathlib.Omega.{arith}
 use native.Mathlib.Numerals.{add-one}
 use native.Mathlib.Nat.{add-zero, zero-add, zero-mul, suc-mul}
 use lib.ListN.{length, drop_of_length-le, get_or, set, take, drop, take-append-drop, length-drop, get_or-append}
-use Rattle.std.proofs.lemmas.List.{set_at}
+use Rattle.std.specs.Prelude.{map}
+use Rattle.std.proofs.lemmas.List.{set_at, map-id}
 use Rattle.std.proofs.Common.{length-append, append-nil}
 use lib.Seq.{take-suc-set, drop-cons, drop-set-lt, get_or-drop, drop-append-le}
 use Rattle.seven.specs.Write.{laid}
@@ -82,13 +83,6 @@ pub copied : (front part column : List ℕ) (n : ℕ) → part ≡ front → len
 unfolding over
 copied front part column n e f = rw (e, f)
 
--- a table of one column
-pub one_column : (count : ℕ) (ns : List ℕ) → count ≤ length ns → column_of 1 0 count ns ≡ take count ns
-unfolding column_of
-one_column zero ns h = refl
-one_column (suc count) [] h = absurd (omega arith)
-one_column (suc count) (n ∷ ns) h = ap (λ (l : List ℕ). n ∷ l) (one_column count ns (omega arith))
-
 -- what stands behind the numbers of a table has no part in its columns
 pub column_front : (width k count : ℕ) (front back : List ℕ) → k < width → count * width ≤ length front →
     column_of width k count (front ++ back) ≡ column_of width k count front
@@ -97,3 +91,7 @@ column_front width k zero front back lt h = refl
 column_front width k (suc count) front back lt h =
     let h' : count * width + width ≤ length front = rw suc-mul at h in
     rw (get_or-append front back 0 k (omega arith), drop-append-le width front back (omega arith), column_front width k count (drop width front) back lt (rw length-drop (omega arith)))
+
+-- a column whose cells are the numbers themselves
+pub column_laid : (front column last : List ℕ) → map (λ (n : ℕ). n) last ≡ over front (map (λ (n : ℕ). n) column) → last ≡ over front column
+column_laid front column last e = sym (map-id last) ∙ e ∙ ap (over front) (map-id column)

@@ -1,5 +1,5 @@
 // The second pass: the columns from the numbers of the tables.
-ghost use Rattle.std.specs.Prelude.{◌≡◌, ◌+◌, ◌*◌, ◌≤◌, length, take, drop};
+ghost use Rattle.std.specs.Prelude.{ℕ, ◌≡◌, ◌+◌, ◌*◌, ◌≤◌, ◌<◌, length, map, take, drop};
 ghost use Rattle.file.specs.Columns.{column_of, over};
 ghost use Rattle.file.specs.Stated.{SameColumns, columns_in, laid_over};
 ghost use Rattle.file.specs.Measured.{Ready, tables_from};
@@ -7,71 +7,45 @@ ghost use Rattle.file.specs.Measured.{Ready, tables_from};
 use crate::measure::Numbers;
 use crate::{Columns, Layout, Table};
 
-fn into_rows(ids: &mut [u16], counts: &mut [u16], flags: &mut [u16], numbers: &[u16], count: usize)
-    requires ids { count ≤ length ids.old }
-    requires counts { count ≤ length counts.old }
-    requires flags { count ≤ length flags.old }
-    requires numbers { count * 3 ≤ length numbers.now }
-    ensures ids { ids.new ≡ over (column_of 3 0 count numbers.now) ids.old }
-    ensures counts { counts.new ≡ over (column_of 3 1 count numbers.now) counts.old }
-    ensures flags { flags.new ≡ over (column_of 3 2 count numbers.now) flags.old }
-{
-    for i in 0..count {
-        ids[i] = numbers[i * 3];
-        counts[i] = numbers[i * 3 + 1];
-        flags[i] = numbers[i * 3 + 2];
+// A cell of a column, and the number of the file that it holds.
+trait Holds: Copy {
+    ghost number: { Self → ℕ };
+
+    fn holding(n: u16) -> Self
+        ensures { number result ≡ n };
+}
+
+impl Holds for u16 {
+    ghost number = { λ n. n };
+
+    fn holding(n: u16) -> u16 {
+        n
     }
 }
 
-fn into_functions(
-    ids: &mut [u16],
-    parameters: &mut [u16],
-    maxima: &mut [u16],
-    offsets: &mut [usize],
-    lengths: &mut [usize],
+impl Holds for usize {
+    ghost number = { λ n. n };
+
+    fn holding(n: u16) -> usize {
+        usize::from(n)
+    }
+}
+
+// A column of a table whose rows have `width` numbers, from the number at `index` of each.
+fn into_column<T: Holds>(
+    column: &mut [T],
     numbers: &[u16],
+    width: usize,
+    index: usize,
     count: usize,
 )
-    requires ids { count ≤ length ids.old }
-    requires parameters { count ≤ length parameters.old }
-    requires maxima { count ≤ length maxima.old }
-    requires offsets { count ≤ length offsets.old }
-    requires lengths { count ≤ length lengths.old }
-    requires numbers { count * 5 ≤ length numbers.now }
-    ensures ids { ids.new ≡ over (column_of 5 0 count numbers.now) ids.old }
-    ensures parameters { parameters.new ≡ over (column_of 5 1 count numbers.now) parameters.old }
-    ensures maxima { maxima.new ≡ over (column_of 5 2 count numbers.now) maxima.old }
-    ensures offsets { offsets.new ≡ over (column_of 5 3 count numbers.now) offsets.old }
-    ensures lengths { lengths.new ≡ over (column_of 5 4 count numbers.now) lengths.old }
+    requires column { count ≤ length column.old }
+    requires numbers { (index < width) × (count * width ≤ length numbers.now) }
+    ensures { map T.number column.new ≡ over (column_of width index count numbers.now) (map T.number column.old) }
 {
     for i in 0..count {
-        ids[i] = numbers[i * 5];
-        parameters[i] = numbers[i * 5 + 1];
-        maxima[i] = numbers[i * 5 + 2];
-        offsets[i] = usize::from(numbers[i * 5 + 3]);
-        lengths[i] = usize::from(numbers[i * 5 + 4]);
+        column[i] = T::holding(numbers[i * width + index]);
     }
-}
-
-fn into_descriptors(types: &mut [u16], functions: &mut [u16], numbers: &[u16], count: usize)
-    requires types { count ≤ length types.old }
-    requires functions { count ≤ length functions.old }
-    requires numbers { count * 2 ≤ length numbers.now }
-    ensures types { types.new ≡ over (column_of 2 0 count numbers.now) types.old }
-    ensures functions { functions.new ≡ over (column_of 2 1 count numbers.now) functions.old }
-{
-    for i in 0..count {
-        types[i] = numbers[i * 2];
-        functions[i] = numbers[i * 2 + 1];
-    }
-}
-
-fn into_entries(entries: &mut [u16], numbers: &[u16], count: usize)
-    requires entries { count ≤ length entries.old }
-    requires numbers { count ≤ length numbers.now }
-    ensures { entries.new ≡ over (column_of 1 0 count numbers.now) entries.old }
-{
-    entries[..count].copy_from_slice(&numbers[..count]);
 }
 
 fn into_code(code: &mut [u8], file: &[u8], table: &Table)
@@ -83,7 +57,7 @@ fn into_code(code: &mut [u8], file: &[u8], table: &Table)
     code[..count].copy_from_slice(&file[table.start..table.start + count]);
 }
 
-#[tactic(auto, unfolding(crate::specs::Stated::laid_over, crate::specs::Measured::tables_from))]
+#[tactic(auto, using(crate::proofs::LaidLaws::column_laid), unfolding(crate::specs::Stated::laid_over, crate::specs::Measured::tables_from))]
 pub(crate) fn fill_columns(
     columns: &mut Columns<'_>,
     numbers: &Numbers,
@@ -94,32 +68,26 @@ pub(crate) fn fill_columns(
     ensures same { SameColumns columns.old columns.new }
     ensures filled { columns_in columns.new ≡ laid_over (tables_from numbers.now file.now layout.now) (columns_in columns.old) }
 {
-    into_rows(
-        columns.list_ids,
-        columns.list_counts,
-        columns.list_flags,
-        &numbers.rows,
-        usize::from(layout.rows.count),
-    );
-    into_functions(
-        columns.function_ids,
-        columns.parameters,
-        columns.maxima,
-        columns.offsets,
-        columns.lengths,
-        &numbers.functions,
-        usize::from(layout.functions.count),
-    );
-    into_descriptors(
-        columns.type_ids,
+    let count = usize::from(layout.rows.count);
+    into_column(columns.list_ids, &numbers.rows, 3, 0, count);
+    into_column(columns.list_counts, &numbers.rows, 3, 1, count);
+    into_column(columns.list_flags, &numbers.rows, 3, 2, count);
+    let count = usize::from(layout.functions.count);
+    into_column(columns.function_ids, &numbers.functions, 5, 0, count);
+    into_column(columns.parameters, &numbers.functions, 5, 1, count);
+    into_column(columns.maxima, &numbers.functions, 5, 2, count);
+    into_column(columns.offsets, &numbers.functions, 5, 3, count);
+    into_column(columns.lengths, &numbers.functions, 5, 4, count);
+    let count = usize::from(layout.descriptors.count);
+    into_column(columns.type_ids, &numbers.descriptors, 2, 0, count);
+    into_column(
         columns.descriptor_functions,
         &numbers.descriptors,
-        usize::from(layout.descriptors.count),
+        2,
+        1,
+        count,
     );
-    into_entries(
-        columns.entries,
-        &numbers.entries,
-        usize::from(layout.entries.count),
-    );
+    let count = usize::from(layout.entries.count);
+    into_column(columns.entries, &numbers.entries, 1, 0, count);
     into_code(columns.code, file, &layout.code);
 }

@@ -2,5 +2,5 @@
 use Rattle.coppernudge.proofs.EntryLaws.{Putting}
 use Rattle.coppernudge.proofs.put_words.Given as goal
 
-abbrev pub invariant-loop-word : goal.invariant-loop-word
-invariant-loop-word l = Putting l.initial.out l.words l.out l.at l.word-index
+abbrev pub invariant-loop-i : goal.invariant-loop-i
+invariant-loop-i l = Putting l.initial.out l.words l.out l.i
