@@ -1,0 +1,54 @@
+// The file that the runs of the script make up.
+ghost use Rattle.std.specs.Prelude.{◌≤◌, length};
+
+// A run of bytes, and how often it stands.
+#[derive(Clone, Copy)]
+pub struct Run<'a> {
+    pub times: usize,
+    pub bytes: &'a [u8],
+}
+
+// The file so far: the first `size` bytes of a buffer.
+#[derive(Drop)]
+pub struct Draft {
+    buffer: [u8; 70000],
+    size: usize,
+    ghost fits: { size ≤ length buffer },
+}
+
+impl Draft {
+    pub fn empty() -> Draft {
+        Draft {
+            buffer: [0; 70000],
+            size: 0,
+        }
+    }
+
+    pub fn file(&self) -> &[u8] {
+        &self.buffer[..self.size]
+    }
+
+    pub fn clear(&mut self) {
+        self.size = 0;
+    }
+
+    // What does not fit is left out.
+    fn push(&mut self, byte: u8) {
+        if self.size < self.buffer.len() {
+            self.buffer[self.size] = byte;
+            self.size += 1;
+        }
+    }
+
+    fn append_once(&mut self, bytes: &[u8]) {
+        for byte in bytes {
+            self.push(*byte);
+        }
+    }
+
+    pub fn append(&mut self, run: &Run<'_>) {
+        for _ in 0..run.times {
+            self.append_once(run.bytes);
+        }
+    }
+}
