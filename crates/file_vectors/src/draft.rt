@@ -17,7 +17,7 @@ pub struct Draft {
 }
 
 impl Draft {
-    pub fn empty() -> Draft {
+    pub fn blank() -> Draft {
         Draft {
             buffer: [0; 70000],
             size: 0,
@@ -28,7 +28,7 @@ impl Draft {
         &self.buffer[..self.size]
     }
 
-    pub fn clear(&mut self) {
+    pub fn start_over(&mut self) {
         self.size = 0;
     }
 

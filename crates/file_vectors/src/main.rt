@@ -104,7 +104,7 @@ fn after_run(rt: &impl Print, draft: &mut Draft, run: &Run<'_>) -> io::Result<()
 {
     if run.bytes.is_empty() {
         show(rt, draft.file(), run.times)?;
-        draft.clear();
+        draft.start_over();
         return Ok(());
     }
     if run.times == 0 {
@@ -115,7 +115,7 @@ fn after_run(rt: &impl Print, draft: &mut Draft, run: &Run<'_>) -> io::Result<()
 }
 
 fn run(rt: &impl Print, script: &[u8]) -> io::Result<()> {
-    let mut draft = Draft::empty();
+    let mut draft = Draft::blank();
     let mut rest = script;
     while let [low, high, count, after @ ..] = rest {
         let count = usize::from(*count);
