@@ -1,10 +1,11 @@
 // The file that the runs of the script make up.
 ghost use Rattle.std.specs.Prelude.{◌≤◌, length};
 
-// A run of bytes, and how often it stands.
+// A run of the script: the first `count` of the bytes that follow its head, zeros past the script's end, and how often they stand.
 #[derive(Clone, Copy)]
 pub struct Run<'a> {
     pub times: usize,
+    pub count: usize,
     pub bytes: &'a [u8],
 }
 
@@ -40,15 +41,15 @@ impl Draft {
         }
     }
 
-    fn append_once(&mut self, bytes: &[u8]) {
-        for byte in bytes {
-            self.push(*byte);
+    fn append_once(&mut self, run: &Run<'_>) {
+        for i in 0..run.count {
+            self.push(cells::at(run.bytes, i));
         }
     }
 
     pub fn append(&mut self, run: &Run<'_>) {
         for _ in 0..run.times {
-            self.append_once(run.bytes);
+            self.append_once(run);
         }
     }
 }

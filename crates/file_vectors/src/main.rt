@@ -102,7 +102,7 @@ fn show(rt: &impl Print, file: &[u8], short: usize) -> io::Result<()> {
 fn after_run(rt: &impl Print, draft: &mut Draft, run: &Run<'_>) -> io::Result<()>
     ensures err { OnErr result (draft.new ≡ draft.old) }
 {
-    if run.bytes.is_empty() {
+    if run.count == 0 {
         show(rt, draft.file(), run.times)?;
         draft.start_over();
         return Ok(());
@@ -117,14 +117,14 @@ fn after_run(rt: &impl Print, draft: &mut Draft, run: &Run<'_>) -> io::Result<()
 fn run(rt: &impl Print, script: &[u8]) -> io::Result<()> {
     let mut draft = Draft::blank();
     let mut rest = script;
-    while let [low, high, count, after @ ..] = rest {
-        let count = usize::from(*count);
+    while !rest.is_empty() {
         let run = Run {
-            times: usize::from(u16::from_le_bytes([*low, *high])),
-            bytes: cells::part(after, 0, count),
+            times: usize::from(u16::from_le_bytes([cells::at(rest, 0), cells::at(rest, 1)])),
+            count: usize::from(cells::at(rest, 2)),
+            bytes: cells::part(rest, 3, rest.len()),
         };
         after_run(rt, &mut draft, &run)?;
-        rest = cells::part(after, count, after.len());
+        rest = cells::part(run.bytes, run.count, run.bytes.len());
     }
     Ok(())
 }
