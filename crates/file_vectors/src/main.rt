@@ -3,20 +3,15 @@
 // k-th column is lent a cell short. A run that stands no times is a case for the writer.
 #![tactic(auto)]
 
+mod draft;
 mod written;
 
-ghost use Rattle.std.specs.Prelude.{◌≡◌, ◌+◌, ◌<◌, ◌≤◌, length, IfOk, OnErr};
+ghost use Rattle.std.specs.Prelude.{◌≡◌, ◌≤◌, OnErr};
 ghost use Rattle.std.specs.Iterator.{IsFinite};
 
+use draft::{Draft, Run};
 use file::{Columns, Refused, Sizes};
 use std::io;
-
-// Two bytes, low byte first.
-pub(crate) fn word(script: &[u8], at: usize) -> u16
-    requires { at + 1 < 18446744073709551616 }
-{
-    u16::from_le_bytes([cells::at(script, at), cells::at(script, at + 1)])
-}
 
 fn mixed(sum: u64, value: u64) -> u64 {
     (sum % 1000000007 * 31 + value % 65536) % 1000000007
@@ -103,71 +98,33 @@ fn show(rt: &impl Print, file: &[u8], short: usize) -> io::Result<()> {
     show_sum(rt, &columns)
 }
 
-// One run of bytes at the end of the file so far; what does not fit is left out.
-fn append(file: &mut [u8; 70000], size: usize, script: &[u8], from: usize, count: usize) -> usize
-    requires { (size ≤ 70000) × ((count < 256) × (from + 256 < 18446744073709551615)) }
-    ensures { result ≤ 70000 }
+// An empty run shows the file and ends it, one that stands no times is a case for the writer, and any other goes to the end of the file.
+fn after_run(rt: &impl Print, draft: &mut Draft, run: &Run<'_>) -> io::Result<()>
+    ensures err { OnErr result (draft.new ≡ draft.old) }
 {
-    for i in 0..count {
-        cells::put(file, size + i, cells::at(script, from + i));
+    if run.count == 0 {
+        show(rt, draft.file(), run.times)?;
+        draft.start_over();
+        return Ok(());
     }
-    (size + count).min(70000)
+    if run.times == 0 {
+        return written::show_case(rt, run.bytes);
+    }
+    draft.append(run);
+    Ok(())
 }
 
-fn append_runs(
-    file: &mut [u8; 70000],
-    size: usize,
-    script: &[u8],
-    from: usize,
-    count: usize,
-    times: usize,
-) -> usize
-    requires { (size ≤ 70000) × ((count < 256) × (from + 256 < 18446744073709551615)) }
-    ensures { result ≤ 70000 }
-{
-    let mut end = size;
-    for _ in 0..times {
-        end = append(file, end, script, from, count);
-    }
-    end
-}
-
-// The size of the file after a run; an empty one shows it, and one that stands no times leaves it as it is.
-fn after_run(
-    rt: &impl Print,
-    file: &mut [u8; 70000],
-    size: usize,
-    script: &[u8],
-    from: usize,
-    count: usize,
-    times: usize,
-) -> io::Result<usize>
-    requires { (size ≤ 70000) × ((count < 256) × (from + 256 < 18446744073709551615)) }
-    ensures ok { IfOk result (λ end. end ≤ 70000) }
-    ensures err { OnErr result (file.new ≡ file.old) }
-{
-    if count == 0 {
-        show(rt, &file[..size], times)?;
-        return Ok(0);
-    }
-    if times == 0 {
-        written::show_case(rt, script, from)?;
-        return Ok(size);
-    }
-    Ok(append_runs(file, size, script, from, count, times))
-}
-
-fn run(rt: &impl Print, script: &[u8]) -> io::Result<()>
-    requires { length script.now ≤ 65536 }
-{
-    let mut file = [0u8; 70000];
-    let mut size = 0;
-    let mut at = 0;
-    while at < script.len() {
-        let times = usize::from(word(script, at));
-        let count = usize::from(cells::at(script, at + 2));
-        size = after_run(rt, &mut file, size, script, at + 3, count, times)?;
-        at = at + 3 + count;
+fn run(rt: &impl Print, script: &[u8]) -> io::Result<()> {
+    let mut draft = Draft::blank();
+    let mut rest = script;
+    while !rest.is_empty() {
+        let run = Run {
+            times: usize::from(u16::from_le_bytes([cells::at(rest, 0), cells::at(rest, 1)])),
+            count: usize::from(cells::at(rest, 2)),
+            bytes: cells::part(rest, 3, rest.len()),
+        };
+        after_run(rt, &mut draft, &run)?;
+        rest = cells::part(run.bytes, run.count, run.bytes.len());
     }
     Ok(())
 }
