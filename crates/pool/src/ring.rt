@@ -39,7 +39,7 @@ impl Ring<'_> {
         ensures raises { Raises result numbers.new self.new.places.now self.new.carried.now self.new.head self.new.count (raise (length self.old.places.now) numbers.old (queue_in self.old) sum to) }
         ensures same { SameRoom self.old self.new }
     {
-        if sum + 1 <= cells::at(numbers, to) {
+        if sum + 1 <= numbers[to] {
             return Ok(());
         }
         let room = self.places.len();

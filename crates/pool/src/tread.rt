@@ -9,16 +9,14 @@ use buffers::{Tread, Way};
 use flow::Flow;
 use tables::TempEffect;
 
-// The buffers held after an instruction.
+// The buffers held after an instruction, by sums in the place of a choice: a choice is a jump in every turn of the walk.
 fn summed(effect: TempEffect, held: u32) -> u32
     requires { held < 65536 }
     ensures { result ≡ sum_past effect held }
 {
-    match effect {
-        TempEffect::Keeps => held,
-        TempEffect::Borrows => held + 1,
-        TempEffect::GivesBack => held.saturating_sub(1),
-    }
+    let more = u32::from(effect == TempEffect::Borrows);
+    let fewer = u32::from(effect == TempEffect::GivesBack);
+    (held + more).saturating_sub(fewer)
 }
 
 // A path ends where its sum passes the pool.

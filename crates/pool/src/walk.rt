@@ -30,7 +30,7 @@ fn follow_on(
         Way::Astray => Err(Unwalked::Undecodable),
         Way::Goes(to) => {
             if ring.count == 0 {
-                if sum + 1 <= cells::at(numbers, to) {
+                if sum + 1 <= numbers[to] {
                     return Ok(None);
                 }
                 numbers[to] = sum + 1;

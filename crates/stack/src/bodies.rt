@@ -14,6 +14,7 @@ use rules::Violation;
 
 // Both phases, over columns cut to the body's size, which no `Scratch` can say.
 #[tactic(auto, using(cells::specs::Zeros::length_zeros, crate::proofs::Running::body_walks, crate::proofs::Running::marks_fitting, crate::proofs::Running::begins_walk), unfolding(crate::specs::Stack::body_answer))]
+#[inline(always)]
 fn run(
     marks: &mut [u8],
     depths: &mut [u32],
@@ -33,6 +34,7 @@ fn run(
 
 // One body, over the front of the scratch. What it used is cleared; the queue holds anything.
 #[tactic(auto, using(cells::specs::Zeros::take_zeros, cells::specs::Zeros::patched))]
+#[inline(always)]
 fn one(
     marks: &mut [u8],
     depths: &mut [u32],

@@ -128,6 +128,7 @@ fn flows(
 
 // The rules at an offset of the body at a depth. Most instructions have the table's effect and go on to the next: they are told apart first.
 #[tactic(auto, using(rules::proofs::Cases::look_end, crate::proofs::Looking::plain_look, crate::proofs::Looking::look_stops))]
+#[inline(always)]
 pub(crate) fn look(
     rules: &Rules<'_>,
     marks: &[u8],

@@ -132,6 +132,7 @@ pub fn effect_in(words: &[u16; 256], op: u8) -> Effect
 }
 
 // Where the effect of op comes from. The sort is a number, since it is a part of a stored word (`sort_move` in specs/Packed.antt).
+#[inline(always)]
 pub fn move_in(words: &[u16; 256], op: u8) -> Move
     ensures { result ≡ move_in words.now op }
 {

@@ -1,14 +1,15 @@
 -- `pool::walk::follow_on` meets its contract: each way on is a case of `follow`.
 -- Assumes nothing.
+use mathlib.Core.Path.{refl}
 use Rattle.std.proofs.lemmas.Result.{err_from_is_err_and}
 use Rattle.pool.proofs.Raising.{turn_ends, turn_astray, turn_kept, turn_on, turn_raised, turn_full, first_full, both_raised, second_full, raised_ready, leads_goes}
 use Rattle.pool.proofs.walk.follow_on.Goals as goal
 
-pub returns-then-sum-at-clause-turns : goal.returns-then-sum-at-clause-turns
-returns-then-sum-at-clause-turns c = turn_kept _ _ _ _ _ _ _ _ c.in-Goes.is c.requires.ready _ c.at.ensures c.if-sum-at.true
+pub returns-then-sum-numbers-clause-turns : goal.returns-then-sum-numbers-clause-turns
+returns-then-sum-numbers-clause-turns c = turn_kept _ _ _ _ _ _ _ _ c.in-Goes.is c.requires.ready _ refl c.if-sum-numbers.true
 
 pub returns-then-ring-eq0-clause-turns : goal.returns-then-ring-eq0-clause-turns
-returns-then-ring-eq0-clause-turns c = turn_on _ _ _ _ _ _ _ _ c.in-Goes.is c.requires.ready c.if-ring-eq0.true _ c.at.ensures c.if-sum-at.false (leads_goes _ _ _ _ _ c.in-Goes.is c.requires.leads).0
+returns-then-ring-eq0-clause-turns c = turn_on _ _ _ _ _ _ _ _ c.in-Goes.is c.requires.ready c.if-ring-eq0.true _ refl c.if-sum-numbers.false (leads_goes _ _ _ _ _ c.in-Goes.is c.requires.leads).0
 
 pub returns-in_err-raise-in-Goes-clause-turns : goal.returns-in_err-raise-in-Goes-clause-turns
 returns-in_err-raise-in-Goes-clause-turns c = let p = err_from_is_err_and c.from_residual.result c.from_residual.ensures.1 in rw (p.1, p.2) (turn_full _ _ _ _ _ _ _ _ c.in-Goes.is _ _ _ _ _ _ c.raise.ensures.raises _ c.in_err-raise-in-Goes.was)
