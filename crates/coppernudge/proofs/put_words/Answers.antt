@@ -28,9 +28,6 @@ overflow_add-out-in-loop-i-2 c = omega (arith, c.loop-i-test.true, c.loop-i.inva
 pub bounds-out-at-in-loop-i-3 : goal.bounds-out-at-in-loop-i-3
 bounds-out-at-in-loop-i-3 c = simp length-set (omega (arith, c.loop-i-test.true, c.loop-i.invariant.len))
 
-pub overflow_add-at : goal.overflow_add-at
-overflow_add-at c = omega (arith, c.loop-i-test.true, c.loop-i.invariant.len)
-
 pub loop-i-preserved : goal.loop-i-preserved
 loop-i-preserved c = turns c.requires c.loop-i-test.true c.loop-i.invariant
 
