@@ -8,7 +8,8 @@ ghost use Rattle.buffers.specs.declared.Unwalked.TheVariants.{Undecodable};
 
 use flow::Stop;
 
-// Where control goes: the path ends, a branch has no legal target, one successor, or the branch target and the next instruction.
+// Where control goes: the path ends, a branch has no legal target, one successor, or the branch target and the next instruction. Astray is no error
+// yet: past the pool the path ends before its target counts (`bounded`).
 #[derive(Clone, Copy, PartialEq, Eq, Debug)]
 pub enum Way {
     Ends,

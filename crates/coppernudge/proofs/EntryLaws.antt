@@ -8,6 +8,8 @@ use lib.ListN.{length, get_or, set, drop, length-set}
 use native.Mathlib.Numerals.{add-one}
 use lib.Seq.{drop-cons}
 use borrow.Author.Tests.{le-ltb, lt-ltb}
+use Rattle.std.specs.Int.{to_le_bytes}
+use Rattle.std.proofs.Common.{w32}
 use Rattle.file.specs.Columns.{over}
 use Rattle.seven.specs.Write.{laid}
 use Rattle.file.proofs.LaidLaws.{laid_start, laid_step, laid_done}
@@ -44,6 +46,11 @@ begins out words = record { within = omega arith; len = refl; goes_on = laid_sta
 -- a word's four bytes, stored
 abbrev pub stored : List ℕ → ℕ → ℕ → List ℕ
 stored out at w = set (set (set (set out at (w % 256)) (at + 1) (w / 256 % 256)) (at + 2) (w / 65536 % 256)) (at + 3) (w / 16777216 % 256)
+
+-- the library's four bytes of a word are those
+pub four : (out bytes : List ℕ) (at w : ℕ) → bytes ≡ to_le_bytes w32 w →
+    set (set (set (set out at (get_or bytes 0 0)) (at + 1) (get_or bytes 1 0)) (at + 2) (get_or bytes 2 0)) (at + 3) (get_or bytes 3 0) ≡ stored out at w
+four out bytes at w e = rw e
 
 stored_length : (out : List ℕ) (at w : ℕ) → length (stored out at w) ≡ length out
 stored_length out at w =

@@ -35,10 +35,11 @@ fn put_words(out: &mut [u8], words: &[u32])
 {
     for (i, &word) in words.iter().enumerate() {
         let at = 4 * i;
-        out[at] = (word % 256) as u8;
-        out[at + 1] = (word / 256 % 256) as u8;
-        out[at + 2] = (word / 65536 % 256) as u8;
-        out[at + 3] = (word / 16777216 % 256) as u8;
+        let [lowest, low, high, highest] = word.to_le_bytes();
+        out[at] = lowest;
+        out[at + 1] = low;
+        out[at + 2] = high;
+        out[at + 3] = highest;
     }
 }
 

@@ -9,7 +9,7 @@ pub struct Run<'a> {
     pub bytes: &'a [u8],
 }
 
-// The file so far: the first `size` bytes of a buffer.
+// The file so far: the first `size` bytes of a buffer. No Vec: nothing here takes memory from the heap.
 #[derive(Drop)]
 pub struct Draft {
     buffer: [u8; 70000],

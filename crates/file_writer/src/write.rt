@@ -8,7 +8,7 @@ ghost use Rattle.file.specs.Stated.{room_of};
 use crate::{Tables, Unwritten};
 use file::Room;
 
-// A column of a table.
+// A column of a table: a row takes a number of each, and they have two widths.
 #[derive(Clone, Copy)]
 enum Column<'a> {
     Narrow(&'a [u16]),

@@ -75,7 +75,7 @@ fn at_row(
     one(scratch, &mut cells[at..end], rules, body)
 }
 
-// The weight and the peak offset of each function, by its row.
+// The weight and the peak offset of each function, by its row. Two arrays: the visit is lent the weights alone.
 #[derive(Drop)]
 pub struct Usages {
     pub weights: [u16; 128],

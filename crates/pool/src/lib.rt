@@ -101,7 +101,7 @@ fn checked(
     ensures zero_after { ZeroAfter scratch.old.marks.now scratch.new.marks.now × (ZeroAfter scratch.old.depths.now scratch.new.depths.now × (ZeroAfter scratch.old.queue.now scratch.new.queue.now × (ZeroAfter scratch.old.queue_depths.now scratch.new.queue_depths.now × ZeroAfter cells.old cells.new))) }
     ensures same { SameColumns scratch.old scratch.new }
 {
-    prove!(program.pool < 65535); // 35 has been tested
+    prove!(program.pool < 65535); // what is taken says only that the pool is not 65,535
     let sizes = tables::sizes();
     let words = tables::words();
     let mut hints = [0u16; 8192];

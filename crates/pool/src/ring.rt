@@ -6,7 +6,7 @@ ghost use Rattle.pool.specs.Stated.{queue_in, ReadyIn, SameRoom};
 
 use buffers::Unwalked;
 
-// `count` entries wait, from `head` on.
+// `count` entries wait, from `head` on. That they are numbered (`ReadyIn`) is no ghost field: the numbers are not the ring's.
 #[derive(Drop)]
 pub struct Ring<'a> {
     pub places: &'a mut [u16],
@@ -54,7 +54,7 @@ impl Ring<'_> {
         Ok(())
     }
 
-    // The first entry that is not lower than the recorded number: those before it are skipped.
+    // The first entry that is not lower than the recorded number. No `for`: those before it are skipped.
     pub(crate) fn first(&mut self, numbers: &[u32]) -> Option<Waiting>
         requires { ReadyIn numbers.now self.old }
         ensures firsts { Firsts result numbers.now self.new.places.now self.new.carried.now self.new.head self.new.count (queue_in self.old) }

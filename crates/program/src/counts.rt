@@ -5,19 +5,11 @@ ghost use Rattle.program.specs.Refusals.{lengths_of, table_refused, too_many, po
 
 use crate::{Descriptors, Program};
 
-// A table by its limit, the length of its first column and the lengths of its others. No `any`: with its closure the check gave up.
+// A table by its limit, the length of its first column and the lengths of its others.
 pub fn table_refused(limit: usize, rows: usize, others: &[usize]) -> bool
     ensures { result ≡ table_refused limit rows others.now }
 {
-    if rows > limit {
-        return true;
-    }
-    for column in others {
-        if *column != rows {
-            return true;
-        }
-    }
-    false
+    rows > limit || others.iter().any(|column| *column != rows)
 }
 
 pub fn too_many(program: &Program<'_>) -> bool

@@ -15,7 +15,8 @@ ghost use Rattle.program.specs.Seat.{seat_of};
 
 use codes::CodeList;
 
-// Functions: id, parameter count, declared maximum depth, body offset and body length.
+// Functions: id, parameter count, declared maximum depth, body offset and body length. Columns and no records: 01 refuses columns of one table that
+// differ in length.
 #[derive(Clone, Copy)]
 pub struct Functions<'a> {
     pub ids: &'a [u16],
@@ -223,16 +224,11 @@ pub fn pool_input(program: &PoolProgram<'_>, room: Room, cells: usize) -> Result
     ordered(&program.program, room, many, short, pool_rest(program.pool))
 }
 
-// The first row with an id, row after row. No `position`: with its closure the check did not find that this is `place_of`.
+// The first row with an id.
 pub fn first_row(ids: &[u16], id: u16) -> Option<usize>
     ensures { result ≡ place_of ids.now id }
 {
-    for (row, found) in ids.iter().enumerate() {
-        if *found == id {
-            return Some(row);
-        }
-    }
-    None
+    ids.iter().position(|found| *found == id)
 }
 
 // The row of a function: most directories have each id at its own number.

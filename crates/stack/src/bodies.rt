@@ -19,33 +19,32 @@ fn run(
     marks: &mut [u8],
     depths: &mut [u32],
     queue: &mut [u16],
-    sizes: &[u8; 256],
     rules: &Rules<'_>,
     body: &[u8],
     maximum: u16,
 ) -> Result<(), Violation>
     requires marks_value { (marks.old ≡ zeros (length body.now)) × ((depths.old ≡ zeros (length body.now + 1)) × ((length body.now + 1 ≤ length queue.old) × (length body.now ≤ 65535))) }
-    ensures { result ≡ body_answer (size_in sizes.now) (known_in rules.now.sources) body.now maximum }
+    ensures { result ≡ body_answer (size_in rules.now.sizes.now) (known_in rules.now.sources) body.now maximum }
 {
-    flow::starts::mark_starts(marks, sizes, body)?;
+    flow::starts::mark_starts(marks, rules.sizes, body)?;
     depths[0] = 1;
     walk(depths, queue, rules, marks, body, maximum)
 }
 
-// One body, over the front of the scratch. What it used is cleared; the queue holds anything.
+// One body, over the front of the scratch. What it used is cleared; the queue holds anything. That marks and depths are zero is no ghost field: they are
+// not while the body is walked.
 #[tactic(auto, using(cells::specs::Zeros::take_zeros, cells::specs::Zeros::patched))]
 #[inline(always)]
 fn one(
     marks: &mut [u8],
     depths: &mut [u32],
     queue: &mut [u16],
-    sizes: &[u8; 256],
     rules: &Rules<'_>,
     body: &[u8],
     maximum: u16,
 ) -> Result<(), Violation>
     requires cleared { Cleared marks.old depths.old × Roomy (length body.now) marks.old depths.old queue.old }
-    ensures { (result ≡ body_answer (size_in sizes.now) (known_in rules.now.sources) body.now maximum) × ((marks.new ≡ zeros (length marks.old)) × (depths.new ≡ zeros (length depths.old))) }
+    ensures { (result ≡ body_answer (size_in rules.now.sizes.now) (known_in rules.now.sources) body.now maximum) × ((marks.new ≡ zeros (length marks.old)) × (depths.new ≡ zeros (length depths.old))) }
 {
     let n = body.len();
     let e = n + 1;
@@ -53,7 +52,6 @@ fn one(
         &mut marks[..n],
         &mut depths[..e],
         queue,
-        sizes,
         rules,
         body,
         maximum,
@@ -70,11 +68,10 @@ pub(crate) fn all(
     marks: &mut [u8],
     depths: &mut [u32],
     queue: &mut [u16],
-    sizes: &[u8; 256],
     rules: &Rules<'_>,
 ) -> Result<(), Fault>
     requires cleared { Cleared marks.old depths.old × Roomy (length rules.now.sources.program.code.now) marks.old depths.old queue.old }
-    ensures { (result ≡ functions_answer (size_in sizes.now) (known_in rules.now.sources) (program_in rules.now.sources.program)) × ((marks.new ≡ zeros (length marks.old)) × (depths.new ≡ zeros (length depths.old))) }
+    ensures { (result ≡ functions_answer (size_in rules.now.sizes.now) (known_in rules.now.sources) (program_in rules.now.sources.program)) × ((marks.new ≡ zeros (length marks.old)) × (depths.new ≡ zeros (length depths.old))) }
 {
     let functions = &rules.sources.program.functions;
     for row in 0..functions.ids.len() {
@@ -84,7 +81,7 @@ pub(crate) fn all(
             cells::at(functions.lengths, row),
         );
         let maximum = cells::at(functions.maxima, row);
-        if let Err(violation) = one(marks, depths, queue, sizes, rules, body, maximum) {
+        if let Err(violation) = one(marks, depths, queue, rules, body, maximum) {
             return Err(Fault::Violated {
                 function: functions.ids[row],
                 violation,

@@ -61,15 +61,17 @@ fn checked(
     codes::note_for(queue_depths, program.list.ids, program.code.len());
     cells::clear(marks);
     cells::clear(depths);
-    let rules = Rules {
-        sources: Sources {
-            words: &words,
-            hints: queue_depths,
-            given: &given,
-            program: *program,
-        },
+    let sources = Sources {
+        words: &words,
+        hints: queue_depths,
+        given: &given,
+        program: *program,
     };
-    let verdict = bodies::all(marks, depths, queue, &sizes, &rules);
+    let rules = Rules {
+        sizes: &sizes,
+        sources,
+    };
+    let verdict = bodies::all(marks, depths, queue, &rules);
     cells::clear(queue);
     cells::clear(queue_depths);
     verdict

@@ -99,7 +99,7 @@ fn legal_target(
     })
 }
 
-// Where control goes, at the depth after: a branch's target before the next instruction.
+// Where control goes, at the depth after: a branch's target before the next instruction. (The pool check's `flows` gives no violations.)
 #[tactic(auto, unfolding(rules::specs::Look::flowing))]
 fn flows(
     marks: &[u8],

@@ -15,7 +15,7 @@ pub enum Overrun {
     Over(usize, u16),
 }
 
-// The colours of a function.
+// The colours of a function, numbers since 01 asks for an array of bytes.
 const NOT_YET_OPEN: u8 = 0;
 
 const OPEN: u8 = 1;
@@ -83,12 +83,15 @@ fn largest(graph: &CallGraph<'_>, f: usize, mut state: State) -> Result<(u16, St
     Ok((best, state))
 }
 
-// An entry while no function is open: a row past 128 is no function, and weighs 0.
-#[tactic(auto, using(crate::proofs::Entries::met_unknown, crate::proofs::Entries::met_new, crate::proofs::Entries::met_again))]
-fn met(graph: &CallGraph<'_>, f: usize, state: State) -> Result<(u16, State), Overrun>
+// An entry while no function is open: an id without a row, or a row past 128, is no function's, and weighs 0.
+#[tactic(auto, using(crate::proofs::Entries::met_unknown, crate::proofs::Entries::met_new, crate::proofs::Entries::met_again), unfolding(crate::specs::Cells::row_at))]
+fn met(graph: &CallGraph<'_>, place: Option<usize>, state: State) -> Result<(u16, State), Overrun>
     requires { AtRest (graph_of graph.now) graph.now.pool state }
-    ensures { Meets (graph_of graph.now) graph.now.pool f result }
+    ensures { Meets (graph_of graph.now) graph.now.pool (row_at place) result }
 {
+    let Some(f) = place else {
+        return Ok((0, state));
+    };
     if 128 <= f {
         return Ok((0, state));
     }
@@ -96,14 +99,6 @@ fn met(graph: &CallGraph<'_>, f: usize, state: State) -> Result<(u16, State), Ov
         return total(graph, f, state);
     }
     Ok((state.totals[f], state))
-}
-
-// The row of an entry; 128 is no function's.
-#[tactic(auto, unfolding(crate::specs::Cells::row_at))]
-fn entry_row(ids: &[u16], id: u16) -> usize
-    ensures { result ≡ row_at (seat_of ids.now id) }
-{
-    program::function_row(ids, id).unwrap_or(128)
 }
 
 // For each entry: the first 20 or 21, else the largest total. A closed function's total does not depend on the entry that it was reached from, so
@@ -129,7 +124,7 @@ pub fn visit_entries(
     };
     let mut best: u16 = 0;
     for &entry in entries {
-        let (total, next) = met(&graph, entry_row(ids, entry), state)?;
+        let (total, next) = met(&graph, program::function_row(ids, entry), state)?;
         state = next;
         best = best.max(total);
     }

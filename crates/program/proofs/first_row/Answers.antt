@@ -1,25 +1,18 @@
--- `program::first_row` meets its contract: no row that was passed has the id.
+-- `program::first_row` meets its contract: what `position` says of the rows.
 -- Assumes nothing.
-use mathlib.Core.Path.{sym}
-use native.Mathlib.Omega.{arith}
-use native.Mathlib.Nat.{not-suc-le-zero}
-use borrow.Author.Count.{below_more}
-use borrow.Author.Rules.{rules}
-use Rattle.codes.specs.LookupLaws.{place_row, place_nowhere}
+use Rattle.std.proofs.Common.{ℕ, ◌∙◌, rules, refl, ◌+◌, ap, arith, ◌≡◌}
+use Rattle.std.specs.Prelude.{eqb, get_or}
+use borrow.Author.Tests.{tests}
+use Rattle.std.proofs.lemmas.Iterator.{YieldsList-from_slice}
+use Rattle.std.proofs.lemmas.Iterator.Search.{position_from_yields_List}
+use Rattle.std.proofs.lemmas.Iterator.Adapters.{position_from-zero}
+use Rattle.codes.specs.Lookup.{place_of, has_id}
+use Rattle.codes.specs.First.{first_of}
+use Rattle.program.proofs.Found.{first_list}
 use Rattle.program.proofs.first_row.Goals as goal
 
-pub loop-row-init : goal.loop-row-init
-loop-row-init c = (search rules, λ k h e. not-suc-le-zero h)
-
-pub returns-then-found-id : goal.returns-then-found-id
-returns-then-found-id c =
-    let l = c.loop-row in
-    sym (place_row _ _ l.row c.loop-row-test.true c.if-found-id.true l.invariant.1)
-
-pub loop-row-preserved : goal.loop-row-preserved
-loop-row-preserved c = (search rules, below_more _ _ c.loop-row.invariant.1 c.if-found-id.false)
-
 pub returns : goal.returns
-returns c =
-    let l = c.loop-row in
-    sym (place_nowhere _ _ (λ j h. l.invariant.1 j (omega arith)))
+unfolding place_of first_of
+returns c = let ids = c.args.ids.now in let id = c.args.id in
+    position_from_yields_List (λ (n : ℕ). eqb n id) _ _ _ c.position.ensures.ran (YieldsList-from_slice ids cc) (λ x b q k. search (rules, tests))
+    ∙ (position_from-zero (λ (n : ℕ). eqb n id) ids ∙ first_list (has_id ids id) id 0 ids (λ j. let z : 0 + j ≡ j = omega arith in ap (has_id ids id) z))

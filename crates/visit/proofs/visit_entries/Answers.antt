@@ -1,6 +1,7 @@
 -- `visit::visit_entries` keeps its promise: its loop begins with no function open, and a failure is an entry's. Its turns and its end are laws of `Entries`
 -- that the source names. Assumes nothing.
-use Rattle.visit.specs.Cells.{graph_in}
+use Rattle.visit.specs.Cells.{graph_in, row_at}
+use Rattle.std.proofs.Common.{ap}
 use Rattle.visit.specs.Marks.{fresh}
 use Rattle.visit.proofs.Colours.{fresh_rest}
 use Rattle.visit.proofs.Entries.{entries_begin, entry_failed}
@@ -19,8 +20,8 @@ returns-in_err-total c =
     let a = c.args in
     let l = c.loop-entry in
     let met = c.met in
-    let row = c.entry_row in
+    let row = c.function_row in
     let p = err_from_is_err_and c.from_residual.result c.from_residual.ensures.1 in
     rw (p.1, p.2)
     (entry_failed (graph_in a.cells.now a.weights.now) a.pool a.ids.now a.entries.now l.best l.state l.entry-index l.invariant
-    c.loop-entry-test.true row.result row.ensures met.result met.ensures _ c.in_err-total.was)
+    c.loop-entry-test.true (row_at row.result) (ap row_at row.ensures) met.result met.ensures _ c.in_err-total.was)

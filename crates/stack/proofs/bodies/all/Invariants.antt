@@ -7,4 +7,4 @@ use Rattle.stack.proofs.Running.{Going}
 use Rattle.stack.proofs.bodies.all.Given as goal
 
 abbrev pub invariant-loop-row : goal.invariant-loop-row
-invariant-loop-row l = Going (size_in l.sizes) (known_in l.rules.sources) (program_in l.rules.sources.program) l.initial.marks l.initial.depths l.initial.queue l.marks l.depths l.queue l.row
+invariant-loop-row l = Going (size_in l.rules.sizes.now) (known_in l.rules.sources) (program_in l.rules.sources.program) l.initial.marks l.initial.depths l.initial.queue l.marks l.depths l.queue l.row
