@@ -8,8 +8,7 @@ use mathlib.Core.List.{List}
 use lib.ListN.{length, take, drop, replicate, length-append, length-replicate}
 use lib.Seq.{take_at}
 use Rattle.program.specs.Program.{PoolProgram}
-use Rattle.program.specs.declared.Refusal.{Refusal}
-use Rattle.program.specs.Refusals.{refusal_number, refusal_place, room_of, pool_input, Input}
+use Rattle.program.specs.Refusals.{room_of, pool_input, Input}
 use Rattle.file.specs.declared.Sizes.{Sizes}
 use Rattle.file.specs.declared.Refused.{Refused}
 use Rattle.file.specs.declared.Layout.{Layout}
@@ -34,16 +33,11 @@ pub both : (q : PoolProgram) {x y : Fields} {u : stack.Verdict} {v : pool.Verdic
 unfolding both_of full_room
 both q hx hy hu hv hm hd hk he hm' hd' hk' he' hn = rw (hx, hy, hu, hv, hm, hd, hk, he, hm', hd', hk', he', hn)
 
--- an input that is taken, and one that is not
+-- an input that is taken
 pub taken : (q : PoolProgram) {input : Input} {r : Checked} → input ≡ pool_input q full_room 16384 → input ≡ Ok tt → r ≡ both_of q →
     ◌≡◌ {A = Answer} (Ok r) (program_answer q)
 unfolding program_answer on_input
 taken q i t e = rw (sym i ∙ t, e)
-
-pub stopped : (q : PoolProgram) {input : Input} {refusal : Refusal} {number place : ℕ} → input ≡ pool_input q full_room 16384 → input ≡ Err refusal →
-    number ≡ refusal_number refusal → place ≡ refusal_place refusal → ◌≡◌ {A = Answer} (Err (record { number = number; place = place })) (program_answer q)
-unfolding program_answer on_input
-stopped q i t n p = rw (sym i ∙ t, n, p)
 
 -- local columns of 01's limits
 abbrev pub zero_columns : Columns

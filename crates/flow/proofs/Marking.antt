@@ -1,6 +1,6 @@
 -- How a loop over a body goes on: one instruction more, one part after the other, and the end. Each is a law over plain lists and numbers.
 -- Assumes nothing.
-use Rattle.std.specs.Prelude.{Bool, false, Ok, Err, Some, None}
+use Rattle.std.specs.Prelude.{false, Ok, Err, Some, None}
 use Rattle.std.specs.Result.{result_unwrap_or}
 use Prim.Native.Nat.{ℕ, ◌+◌, ◌≤◌, ◌<◌}
 use mathlib.Core.Path.{◌≡◌, refl, ◌∙◌, ap, sym}

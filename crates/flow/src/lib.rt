@@ -30,7 +30,7 @@ pub enum Flow {
     Return,
 }
 
-// A place counted from the body's start: so many bytes after it, or before it. No i64: `moved` answers any `next` above a body's length as it came, and
+// A place counted from the body's start: so many bytes after it, or before it. No i64: `moved` answers any `next` above 65,536 as it came, and
 // no signed number holds every usize.
 #[derive(Clone, Copy, PartialEq, Eq, Debug)]
 pub enum Spot {
@@ -49,14 +49,12 @@ pub fn decode_step(
     if body.len() <= offset {
         return Ok(None);
     }
-    let opcode = body[offset];
-    let size = tables::size_in(sizes, opcode);
+    let byte = body[offset];
+    let size = tables::size_in(sizes, byte);
     if size == 0 {
-        return Err(Stop::Unknown {
-            offset,
-            byte: opcode,
-        });
+        return Err(Stop::Unknown { offset, byte });
     }
+    let opcode = byte;
     if usize::from(size) <= body.len() - offset {
         Ok(Some(Instruction { opcode, size }))
     } else {

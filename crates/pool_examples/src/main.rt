@@ -12,7 +12,7 @@ fn not_zero<T: Cell + PartialEq>(column: &[T]) -> usize {
     column.iter().filter(|cell| **cell != T::zero()).count()
 }
 
-// Functions 1, 2, .. without list rows and descriptors, with scratch of junk and some to spare.
+// Functions 1, 2, .. without list rows and descriptors, with scratch of junk and some to spare. Its arguments are what one example says.
 fn run<'a>(
     rt: &impl Print,
     name: &str,

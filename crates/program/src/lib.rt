@@ -8,7 +8,6 @@ mod seen;
 
 ghost use Rattle.std.specs.Prelude.{◌≡◌, ◌≤◌, length};
 ghost use Rattle.codes.specs.Lookup.{place_of};
-ghost use Rattle.codes.specs.Rows.{rows_of};
 ghost use Rattle.program.specs.Stated.{program_in, pool_program_in, room_in};
 ghost use Rattle.program.specs.Refusals.{refusal_number, refusal_place, input_number, input_place, scratch_short, directory_of, contents_of, on_pool, input_of, stack_input, pool_input};
 ghost use Rattle.program.specs.Seat.{seat_of};
@@ -93,7 +92,7 @@ impl Scratch<'_> {
 }
 
 impl Refusal {
-    // 01's number, which is none of the enum's own.
+    // 01's number: the variants have none.
     pub fn number(self) -> u32
         ensures { result ≡ refusal_number self }
     {

@@ -1,6 +1,4 @@
 // Asks both calls of a program and prints a line: its name, and the number and the place of each answer.
-ghost use Rattle.std.specs.Prelude.{◌≤◌};
-
 use codes::CodeList;
 use program::{Descriptors, Functions, PoolProgram, Program, Room};
 use std::io;

@@ -14,7 +14,7 @@ fn recorded_move(kind: u8, takes: u8, leaves: u8) -> Option<Move> {
     }
 }
 
-// Compared byte by byte with the file's row.
+// By hand: the file's row is six bytes, and no value of any type.
 fn same_row(sizes: &[u8; 256], words: &[u16; 256], data: &[u8], op: u8) -> bool {
     let row = op as usize * 6;
     let size = tally::byte(data, row, 0);

@@ -12,7 +12,8 @@ use crate::program_rules::Rules;
 use crate::walk::walk;
 use rules::Violation;
 
-// Both phases, over columns cut to the body's size, which no `Scratch` can say.
+// Both phases, over marks and depths cut to the body's size, which no `Scratch` can say. The pool check's bodies have the shape of these and nothing else
+// in common. From here down to the look all is inlined: straight bodies take a tenth less.
 #[tactic(auto, using(cells::specs::Zeros::length_zeros, crate::proofs::Running::body_walks, crate::proofs::Running::marks_fitting, crate::proofs::Running::begins_walk), unfolding(crate::specs::Stack::body_answer))]
 #[inline(always)]
 fn run(

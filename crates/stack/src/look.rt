@@ -1,7 +1,7 @@
 // 01's rules at one place, as code: one caller, the walk. The definition is rules' `look_of`.
 ghost use Rattle.std.specs.Prelude.{◌≡◌, ℕ, ◌≤◌, ◌<◌, length};
 ghost use Rattle.flow.specs.Decode.{flow_of, moved, target_of};
-ghost use Rattle.rules.specs.Look.{Look, larger, exit_at, unknown_at, flowing, moving, look_of};
+ghost use Rattle.rules.specs.Look.{Look, exit_at, unknown_at, flowing, moving, look_of};
 ghost use Rattle.effects.specs.Stated.{known_in};
 ghost use Rattle.stack.specs.Moves.{effect_at, on_moved, legal_of};
 
