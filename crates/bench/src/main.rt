@@ -13,7 +13,7 @@ fn print_answer(rt: &impl Print, answer: Result<Checked, Refused>) -> io::Result
             println!(rt; "STACK {stack}")?;
             println!(rt; "POOL {pool}")
         }
-        Err(Refused { number, place }) => println!(rt; "INPUT {number} {place}"),
+        Err(refused) => println!(rt; "{refused}"),
     }
 }
 

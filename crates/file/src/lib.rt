@@ -11,12 +11,20 @@ ghost use Rattle.std.specs.Prelude.{◌≡◌};
 ghost use Rattle.file.specs.Stated.{SameColumns, columns_in, room_of, sizes_in, outcome_of, read_into, leaves};
 
 use measure::Numbers;
+use std::fmt;
 
 // Why a file is refused: 01's number, and the place.
 #[derive(Clone, Copy, PartialEq, Eq, Debug)]
 pub struct Refused {
     pub number: u32,
     pub place: usize,
+}
+
+// As the programs print it.
+impl fmt::Display for Refused {
+    fn fmt<W: fmt::Write>(&self, f: &mut fmt::Formatter<W>) -> fmt::Result {
+        write!(f, "INPUT {} {}", self.number, self.place)
+    }
 }
 
 // A table of the file: how many rows, the place of the first, and the place after the last.
@@ -84,6 +92,7 @@ pub struct Sizes {
 }
 
 impl Columns<'_> {
+    // Twelve lengths, here and in file_writer's `Tables`, which lends `&`: a trait for both would name the twelve again.
     fn room(&self) -> Room
         ensures { result ≡ room_of (columns_in self.now) }
     {

@@ -11,7 +11,7 @@ fn narrow(n: usize) -> u32 {
     (n % 0x4000_0000) as u32
 }
 
-// A length, shifted by two bits to make room for a kind.
+// A length, shifted by two bits to make room for a kind. (`probe` has this too: neither library stands on the other.)
 fn packed(length: usize) -> u32 {
     (length % 0x4000_0000) as u32 * 4
 }

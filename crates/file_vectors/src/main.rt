@@ -35,7 +35,7 @@ fn show_outcome(rt: &impl Print, outcome: Result<Sizes, Refused>) -> io::Result<
             "READ {} {} {} {} {} {}",
             s.pool, s.rows, s.functions, s.descriptors, s.entries, s.code
         ),
-        Err(Refused { number, place }) => print!(rt; "INPUT {number} {place}"),
+        Err(refused) => print!(rt; "{refused}"),
     }
 }
 

@@ -38,6 +38,7 @@ pub enum Unwritten {
 }
 
 impl Tables<'_> {
+    // As file's `Columns::room`.
     fn room(&self) -> Room
         ensures { result ≡ room_of (columns_of self.now) }
     {

@@ -23,7 +23,7 @@ use buffers::Unwalked;
 use callees::Sources;
 use program::{PoolProgram, Refusal, Scratch};
 use temp_rules::TempRules;
-use visit::Overrun;
+use visit::{CallGraph, Overrun};
 
 // Why the call does not accept: the input refused, 20 with the function that closed above the pool and its peak offset, 21, 22 or 23.
 #[derive(Clone, Copy, PartialEq, Eq, Debug)]
@@ -65,7 +65,12 @@ fn visited(cells: &[u8], usages: &Usages, program: &PoolProgram<'_>) -> Result<(
     ensures { result ≡ visit_in program.now cells.now usages.now }
 {
     let ids = program.program.functions.ids;
-    let seen = visit::visit_entries(cells, &usages.weights, program.pool, ids, program.entries);
+    let graph = CallGraph {
+        cells,
+        weights: &usages.weights,
+        pool: program.pool,
+    };
+    let seen = visit::visit_entries(&graph, ids, program.entries);
     match seen {
         Ok(_) => Ok(()),
         Err(Overrun::Cycle(row)) => Err(Fault::RecursiveCallGraph(cells::at(ids, row))),

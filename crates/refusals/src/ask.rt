@@ -47,8 +47,8 @@ pub enum Change {
 
 fn rising() -> [u16; 6145] {
     let mut ids = [0u16; 6145];
-    for i in 0..6145u16 {
-        cells::put(&mut ids, i as usize, i);
+    for (i, id) in ids.iter_mut().enumerate() {
+        *id = i as u16;
     }
     ids
 }

@@ -53,5 +53,10 @@ pub fn word(data: &[u8], at: usize) -> u16 {
 
 // Four bytes, low byte first.
 pub fn double_word(data: &[u8], at: usize) -> u32 {
-    u32::from(word(data, at)) + u32::from(word(data, at.wrapping_add(2))) * 65536
+    u32::from_le_bytes([
+        byte(data, at, 0),
+        byte(data, at, 1),
+        byte(data, at, 2),
+        byte(data, at, 3),
+    ])
 }

@@ -5,7 +5,7 @@
 ghost use Rattle.std.specs.Prelude.{◌≡◌, ◌<◌, get_or};
 ghost use Rattle.program.specs.Seat.{seat_of};
 ghost use Rattle.visit.specs.Visit.{visit_of};
-ghost use Rattle.visit.specs.Cells.{graph_in, graph_of, row_at, entry_rows};
+ghost use Rattle.visit.specs.Cells.{graph_of, row_at, entry_rows};
 ghost use Rattle.visit.specs.Marks.{Kept, Visits, Walks, AtRest, Meets};
 
 // Why there is no total: 21, with the row of the callee still open; 20, with the row of the function that closed above the pool and its total.
@@ -31,10 +31,10 @@ pub struct State {
 
 // What a visit reads: the callees of each function in 128 cells of its own, its weight, and the pool.
 #[derive(Clone, Copy)]
-struct CallGraph<'a> {
-    cells: &'a [u8],
-    weights: &'a [u16],
-    pool: u16,
+pub struct CallGraph<'a> {
+    pub cells: &'a [u8],
+    pub weights: &'a [u16],
+    pub pool: u16,
 }
 
 // The total of a function that is not yet open: it opens, and closes with its weight and the largest among its callees.
@@ -104,27 +104,16 @@ fn met(graph: &CallGraph<'_>, place: Option<usize>, state: State) -> Result<(u16
 // For each entry: the first 20 or 21, else the largest total. A closed function's total does not depend on the entry that it was reached from, so
 // colours and totals are kept over the entries.
 #[tactic(auto, using(crate::proofs::Entries::entries_end, crate::proofs::Entries::entry_fine))]
-pub fn visit_entries(
-    cells: &[u8],
-    weights: &[u16],
-    pool: u16,
-    ids: &[u16],
-    entries: &[u16],
-) -> Result<u16, Overrun>
-    ensures { result ≡ visit_of (graph_in cells.now weights.now) pool (entry_rows ids.now entries.now) }
+pub fn visit_entries(graph: &CallGraph<'_>, ids: &[u16], entries: &[u16]) -> Result<u16, Overrun>
+    ensures { result ≡ visit_of (graph_of graph.now) graph.now.pool (entry_rows ids.now entries.now) }
 {
-    let graph = CallGraph {
-        cells,
-        weights,
-        pool,
-    };
     let mut state = State {
         colours: [NOT_YET_OPEN; 128],
         totals: [0; 128],
     };
     let mut best: u16 = 0;
     for &entry in entries {
-        let (total, next) = met(&graph, program::function_row(ids, entry), state)?;
+        let (total, next) = met(graph, program::function_row(ids, entry), state)?;
         state = next;
         best = best.max(total);
     }

@@ -4,7 +4,7 @@
 ghost use Rattle.std.specs.Prelude.{◌<◌};
 
 use std::io;
-use visit::Overrun;
+use visit::{CallGraph, Overrun};
 
 fn line(rt: &impl Print, name: &str, answer: Result<u16, Overrun>) -> io::Result<()> {
     match answer {
@@ -14,11 +14,11 @@ fn line(rt: &impl Print, name: &str, answer: Result<u16, Overrun>) -> io::Result
     }
 }
 
-// Each function calls the next one, the last none.
-fn chain(cells: &mut [u8]) {
-    for f in 0..127 {
-        cells::put(cells, f * 128, (f + 2) as u8);
-    }
+// The callees of each of 128 functions, and its weight.
+#[derive(Drop)]
+struct Graph {
+    cells: [u8; 16384],
+    weights: [u16; 128],
 }
 
 // The callee after another one of f: the later functions, round and round.
@@ -29,23 +29,43 @@ fn later(f: usize, callee: usize) -> usize
     if callee < 127 { callee + 1 } else { f + 1 }
 }
 
-// A function calls all later ones again and again, until its 128 cells are full.
-fn full_row(cells: &mut [u8], f: usize)
-    requires { f < 127 }
-{
-    let mut callee = f;
-    for cell in 0..128 {
-        callee = later(f, callee);
-        cells::put(cells, f * 128 + cell, (callee + 1) as u8);
+impl Graph {
+    // No function calls another, and each weighs 1.
+    fn blank() -> Graph {
+        Graph {
+            cells: [0; 16384],
+            weights: [1; 128],
+        }
+    }
+
+    // Each function calls the next one, the last none.
+    fn chain(&mut self) {
+        for f in 0..127 {
+            cells::put(&mut self.cells, f * 128, (f + 2) as u8);
+        }
+    }
+
+    // A function calls all later ones again and again, until its 128 cells are full.
+    fn full_row(&mut self, f: usize)
+        requires { f < 127 }
+    {
+        let mut callee = f;
+        for cell in 0..128 {
+            callee = later(f, callee);
+            cells::put(&mut self.cells, f * 128 + cell, (callee + 1) as u8);
+        }
+    }
+
+    // Each function but the last has a full row.
+    fn wide(&mut self) {
+        for f in 0..127 {
+            self.full_row(f);
+        }
     }
 }
 
-// Each function but the last has a full row.
-fn wide(cells: &mut [u8]) {
-    for f in 0..127 {
-        full_row(cells, f);
-    }
-}
+// The entry that is the first function's id.
+const FIRST: [u16; 1] = [200];
 
 // Function k has id 200 - k.
 fn falling() -> [u16; 128] {
@@ -56,142 +76,61 @@ fn falling() -> [u16; 128] {
     ids
 }
 
-fn ask(
-    rt: &impl Print,
-    name: &str,
-    cells: &[u8],
-    weights: &[u16],
-    pool: u16,
-    entries: &[u16],
-) -> io::Result<()> {
-    let ids = falling();
-    line(
-        rt,
-        name,
-        visit::visit_entries(cells, weights, pool, &ids, entries),
-    )
+// The visit of a graph from its entries, at a pool.
+fn ask(rt: &impl Print, name: &str, graph: &Graph, pool: u16, entries: &[u16]) -> io::Result<()> {
+    let graph = CallGraph {
+        cells: &graph.cells,
+        weights: &graph.weights,
+        pool,
+    };
+    line(rt, name, visit::visit_entries(&graph, &falling(), entries))
 }
 
-fn chains(
-    rt: &impl Print,
-    cells: &mut [u8],
-    weights: &[u16],
-    first: &[u16],
-    again: &[u16],
-) -> io::Result<()> {
-    chain(cells);
-    ask(rt, "chain", cells, weights, 128, first)?;
-    ask(rt, "chain, pool short by one", cells, weights, 127, first)?;
-    ask(
-        rt,
-        "chain, 32 times the same entry",
-        cells,
-        weights,
-        128,
-        again,
-    )
+fn chains(rt: &impl Print, graph: &mut Graph) -> io::Result<()> {
+    graph.chain();
+    ask(rt, "chain", graph, 128, &FIRST)?;
+    ask(rt, "chain, pool short by one", graph, 127, &FIRST)?;
+    ask(rt, "chain, 32 times the same entry", graph, 128, &[200; 32])
 }
 
-fn rings(rt: &impl Print, cells: &mut [u8], weights: &[u16], first: &[u16]) -> io::Result<()> {
-    cells::put(cells, 16256, 1);
-    ask(
-        rt,
-        "chain, the last calls the first",
-        cells,
-        weights,
-        128,
-        first,
-    )?;
-    cells::put(cells, 16256, 128);
-    ask(
-        rt,
-        "chain, the last calls itself",
-        cells,
-        weights,
-        128,
-        first,
-    )
+fn rings(rt: &impl Print, graph: &mut Graph) -> io::Result<()> {
+    cells::put(&mut graph.cells, 16256, 1);
+    ask(rt, "chain, the last calls the first", graph, 128, &FIRST)?;
+    cells::put(&mut graph.cells, 16256, 128);
+    ask(rt, "chain, the last calls itself", graph, 128, &FIRST)
 }
 
-fn entries_of_a_chain(rt: &impl Print, cells: &mut [u8], weights: &[u16]) -> io::Result<()> {
-    chain(cells);
-    let from_its_end = [73u16, 200u16, 73u16, 9u16, 137u16];
-    ask(
-        rt,
-        "chain, entries from its end on, one unknown",
-        cells,
-        weights,
-        128,
-        &from_its_end,
-    )?;
-    let unknown = [9u16; 1];
-    ask(
-        rt,
-        "chain, unknown entry, pool 0",
-        cells,
-        weights,
-        0,
-        &unknown,
-    )?;
-    ask(
-        rt,
-        "chain, no entry, pool 0",
-        cells,
-        weights,
-        0,
-        &unknown[0..0],
-    )
+fn entries_of_a_chain(rt: &impl Print, graph: &mut Graph) -> io::Result<()> {
+    graph.chain();
+    let from_its_end = [73, 200, 73, 9, 137];
+    let name = "chain, entries from its end on, one unknown";
+    ask(rt, name, graph, 128, &from_its_end)?;
+    ask(rt, "chain, unknown entry, pool 0", graph, 0, &[9])?;
+    ask(rt, "chain, no entry, pool 0", graph, 0, &[])
 }
 
-fn widest(
-    rt: &impl Print,
-    cells: &mut [u8],
-    weights: &[u16],
-    first: &[u16],
-    again: &[u16],
-) -> io::Result<()> {
-    wide(cells);
-    ask(rt, "widest", cells, weights, 128, first)?;
-    ask(rt, "widest, pool short by one", cells, weights, 127, first)?;
-    ask(
-        rt,
-        "widest, pool short by two, 32 times the same entry",
-        cells,
-        weights,
-        126,
-        again,
-    )
+fn widest(rt: &impl Print, graph: &mut Graph) -> io::Result<()> {
+    graph.wide();
+    ask(rt, "widest", graph, 128, &FIRST)?;
+    ask(rt, "widest, pool short by one", graph, 127, &FIRST)?;
+    let name = "widest, pool short by two, 32 times the same entry";
+    ask(rt, name, graph, 126, &[200; 32])
 }
 
-fn heavy(rt: &impl Print, cells: &[u8], weights: &mut [u16], first: &[u16]) -> io::Result<()> {
-    cells::put(weights, 64, 65535);
-    ask(
-        rt,
-        "widest, one of 65535, pool 65535",
-        cells,
-        weights,
-        65535,
-        first,
-    )?;
-    ask(
-        rt,
-        "widest, one of 65535, pool 65534",
-        cells,
-        weights,
-        65534,
-        first,
-    )
+fn heavy(rt: &impl Print, graph: &mut Graph) -> io::Result<()> {
+    cells::put(&mut graph.weights, 64, 65535);
+    let name = "widest, one of 65535, pool 65535";
+    ask(rt, name, graph, 65535, &FIRST)?;
+    let name = "widest, one of 65535, pool 65534";
+    ask(rt, name, graph, 65534, &FIRST)
 }
 
 fn main(rt: HostRuntime) -> io::Result<()> {
-    let mut weights = [1u16; 128];
-    let first = [200u16; 1];
-    let again = [200u16; 32];
-    let mut cells = [0u8; 16384];
-    entries_of_a_chain(&rt, &mut cells, &weights)?;
-    chains(&rt, &mut cells, &weights, &first, &again)?;
-    rings(&rt, &mut cells, &weights, &first)?;
-    let mut full = [0u8; 16384];
-    widest(&rt, &mut full, &weights, &first, &again)?;
-    heavy(&rt, &full, &mut weights, &first)
+    let mut graph = Graph::blank();
+    entries_of_a_chain(&rt, &mut graph)?;
+    chains(&rt, &mut graph)?;
+    rings(&rt, &mut graph)?;
+    let mut full = Graph::blank();
+    widest(&rt, &mut full)?;
+    heavy(&rt, &mut full)
 }

@@ -1,6 +1,6 @@
 -- `visit::visit_entries` keeps its promise: its loop begins with no function open, and a failure is an entry's. Its turns and its end are laws of `Entries`
 -- that the source names. Assumes nothing.
-use Rattle.visit.specs.Cells.{graph_in, row_at}
+use Rattle.visit.specs.Cells.{graph_of, row_at}
 use Rattle.std.proofs.Common.{ap}
 use Rattle.visit.specs.Marks.{fresh}
 use Rattle.visit.proofs.Colours.{fresh_rest}
@@ -12,8 +12,8 @@ pub loop-entry-init : goal.loop-entry-init
 unfolding fresh
 loop-entry-init c =
     let a = c.args in
-    entries_begin (graph_in a.cells.now a.weights.now) a.pool a.ids.now a.entries.now fresh
-    (fresh_rest (graph_in a.cells.now a.weights.now) a.pool)
+    entries_begin (graph_of a.graph.now) a.graph.now.pool a.ids.now a.entries.now fresh
+    (fresh_rest (graph_of a.graph.now) a.graph.now.pool)
 
 pub returns-in_err-total : goal.returns-in_err-total
 returns-in_err-total c =
@@ -23,5 +23,5 @@ returns-in_err-total c =
     let row = c.function_row in
     let p = err_from_is_err_and c.from_residual.result c.from_residual.ensures.1 in
     rw (p.1, p.2)
-    (entry_failed (graph_in a.cells.now a.weights.now) a.pool a.ids.now a.entries.now l.best l.state l.entry-index l.invariant
+    (entry_failed (graph_of a.graph.now) a.graph.now.pool a.ids.now a.entries.now l.best l.state l.entry-index l.invariant
     c.loop-entry-test.true (row_at row.result) (ap row_at row.ensures) met.result met.ensures _ c.in_err-total.was)
