@@ -43,13 +43,17 @@ impl Columns {
 pub fn replay(columns: &Columns) -> Tally {
     let list = columns.list();
     let mut tally = Tally::default();
-    let mut rows = list.ids.iter().enumerate().peekable();
+    // By hand: with `next_if` of a peekable iterator the check did not find that it may go on.
+    let mut row: usize = 0;
     for id in 0..=65535u16 {
-        let next = rows.next_if(|(_, found)| **found == id);
-        let recorded = next.map(|(row, _)| Listed {
-            count: cells::at(list.counts, row),
-            flag: cells::at(list.flags, row),
-        });
+        let mut recorded = None;
+        if row < list.ids.len() && cells::at(list.ids, row) == id {
+            recorded = Some(Listed {
+                count: cells::at(list.counts, row),
+                flag: cells::at(list.flags, row),
+            });
+            row = row.wrapping_add(1);
+        }
         tally.count(codes::lookup(&list, id) == recorded);
     }
     tally
