@@ -1,12 +1,13 @@
 -- Numbers in a row: what the first of them leave to the rest.
 -- Assumes nothing.
-use Rattle.std.specs.Prelude.{ℕ, zero, suc, ◌+◌, ◌-◌, ◌<◌, ◌≡◌, refl, List, [], ◌∷◌, ◌++◌, Result, Ok, Err}
+use Rattle.std.specs.Prelude.{ℕ, zero, suc, ◌+◌, ◌-◌, ◌<◌, ◌≡◌, refl, List, [], ◌∷◌, ◌++◌, length, Result, Ok, Err}
 use Rattle.std.proofs.Common.{◌∙◌, ap, arith, zero-add}
 use Rattle.seven.specs.declared.Number.{Number}
 use Rattle.seven.specs.declared.Misread.{Misread}
+use Rattle.seven.specs.declared.Misread.TheVariants.{Bad, Early}
 use Rattle.seven.specs.Seven.{number_at}
 use Rattle.file.specs.declared.Refused.{Refused}
-use Rattle.file.specs.Numbers.{if_read, or_refused, number_in, run_of, on_value, numbers}
+use Rattle.file.specs.Numbers.{refused, misread, if_read, or_refused, number_in, run_of, on_value, numbers}
 
 -- a refusal is no result
 pub never : {A P : Type 0} {r : Refused} {x : A} → ◌≡◌ {A = Result A Refused} (Err r) (Ok x) → P
@@ -33,11 +34,11 @@ module _ (file : List ℕ) where
   split_lem i j (Err d) rest = refl
 
   pub run_split : (i j start : ℕ) → run_of (i + j) file start ≡ if_read (run_of i file start) (λ (at : ℕ). run_of j file at)
-  unfolding run_of
+  unfolding run_of number_in
   run_split zero j start = rw zero-add
   run_split (suc i) j start =
       let e : suc i + j ≡ suc (i + j) = omega arith in
-      rw e (split_lem i j (number_in file start) (λ start. run_split i j start))
+      rw e (split_lem i j _ (λ start. run_split i j start))
 
   more_lem : (i j at start : ℕ) (r : Result Number Misread) →
       ((next : ℕ) → run_of i file next ≡ Ok at → numbers (i + j) file next ≡ numbers i file next ++ numbers j file at) →
@@ -53,12 +54,12 @@ module _ (file : List ℕ) where
       rw (zero-add, same)
   numbers_split (suc i) j at start e =
       let f : suc i + j ≡ suc (i + j) = omega arith in
-      rw f (more_lem i j at start (number_at file start) (λ next e. numbers_split i j at next e) e)
+      rw f (more_lem i j at _ (number_at file start) (λ next e. numbers_split i j at next e) e)
 
   -- one number more
   pub run_next : (i at start : ℕ) (x : Number) → run_of i file start ≡ Ok at → number_in file at ≡ Ok x → run_of (i + 1) file start ≡ Ok x.next
-  unfolding run_of
-  run_next i at start x e there = run_split i 1 start ∙ simp (e, there)
+  unfolding run_of number_in
+  run_next i at start x e f = run_split i 1 start ∙ simp (e, there file at x f)
 
   pub numbers_next : (i at start : ℕ) (x : Number) → run_of i file start ≡ Ok at → number_in file at ≡ Ok x →
       numbers (i + 1) file start ≡ numbers i file start ++ (x.n ∷ [])
@@ -68,7 +69,20 @@ module _ (file : List ℕ) where
   -- a number that is refused ends the run
   pub run_ends : (i count at start : ℕ) (r : Refused) → i < count → run_of i file start ≡ Ok at → number_in file at ≡ Err r →
       run_of count file start ≡ Err r
-  unfolding run_of
+  unfolding run_of number_in
   run_ends i count at start r h e there =
       let f : count ≡ i + suc (count - (i + 1)) = omega arith in
       rw f (run_split i (suc (count - (i + 1))) start ∙ simp (e, there))
+
+-- what a number that is bad or cut leaves: the run's refusal, and no numbers
+module _ (s : List ℕ) (count at i : ℕ) (h : i < count) where
+  one_less : count - i ≡ suc (count - (i + 1))
+  one_less = omega arith
+
+  pub bad_there : number_at s at ≡ Err Bad → (run_of (count - i) s at ≡ Err (refused 40 at)) × (numbers (count - i) s at ≡ [])
+  unfolding run_of numbers number_in misread
+  bad_there p = rw one_less (simp p, simp p)
+
+  pub early_there : number_at s at ≡ Err Early → (run_of (count - i) s at ≡ Err (refused 41 (length s))) × (numbers (count - i) s at ≡ [])
+  unfolding run_of numbers number_in misread
+  early_there p = rw one_less (simp p, simp p)

@@ -109,7 +109,7 @@ one_there file at count end (Err m) rest e = never e
 pub all_there : (count : ℕ) (file : List ℕ) (at end : ℕ) → run_of count file at ≡ Ok end → length (numbers count file at) ≡ count
 unfolding run_of numbers number_in
 all_there zero file at end e = refl
-all_there (suc count) file at end e = one_there file at count end (number_at file at) (λ next f. all_there count file next end f) e
+all_there (suc count) file at end e = one_there file _ count end (number_at file at) (λ next f. all_there count file next end f) e
 
 -- what is refused did not go well, be it a number's refusal or a table's
 pub never_at : {A P : Type 0} {r : Refused} {end : A} → ◌≡◌ {A = Result A Refused} (Err r) (Ok end) → P

@@ -1,17 +1,22 @@
 -- The numbers of a table one by one, counted by index and row, are its rows: the law that a writer needs which goes on from number to number.
 -- Assumes nothing.
 use Prim.Native.Nat.{ℕ, zero, suc, ◌+◌, ◌*◌, ◌<◌, ◌≤◌}
-use Rattle.std.specs.Prelude.{◌≡◌, cond, ltb, eqb}
+use Rattle.std.specs.Prelude.{◌≡◌, cond, ltb, eqb, map}
 use Rattle.std.proofs.Math.Path.{refl, ap}
-use Rattle.std.proofs.Common.{◌∙◌}
+use Rattle.std.proofs.Common.{◌∙◌, sym}
 use mathlib.Core.List.{List, [], ◌∷◌, ◌++◌}
 use native.Mathlib.Omega.{arith}
 use Rattle.std.proofs.Math.Numerals.{add-one}
 use Rattle.std.proofs.Math.ListN.{get_or}
-use borrow.Author.Tests.{lt-ltb, le-ltb}
+use borrow.Author.Tests.{lt-ltb, le-ltb, ltb-true}
+use Rattle.seven.proofs.Forms.{by_test}
 use Rattle.file.specs.Written.{row_at, rows_from}
-use Rattle.file_writer.specs.Writing.{fit, all_small}
+use Rattle.file_writer.specs.declared.Tables.{Tables}
+use Rattle.file_writer.specs.declared.write.Column.{Column}
+use Rattle.file_writer.specs.declared.write.Column.TheVariants.{Narrow, Wide}
+use Rattle.file_writer.specs.Writing.{column_of, fit, all_small}
 use Rattle.file_writer.specs.NumbersLaws.{smalls, fit_small}
+use Rattle.file_writer.proofs.WriteLaws.{fit_at}
 
 -- the number at an index of a row
 unfoldable pub cell_of : List ℕ → List ℕ → List ℕ → List ℕ → List ℕ → ℕ → ℕ → ℕ
@@ -89,3 +94,42 @@ module _ (c0 c1 c2 c3 c4 : List ℕ) (a : (i : ℕ) → get_or c3 i 0 < 65536) (
       (rest_of_row narrow 0 (suc narrow) (count * suc narrow) i (omega arith) (omega arith)
       ∙ (ap (λ (l : List ℕ). row_at (columns_from (suc narrow) 0) i ++ l) (rows narrow table h e count (suc i))
       ∙ ap (λ (t : List (List ℕ)). row_at t i ++ rows_from table count (suc i)) e))
+
+-- what has no form counts as 0 in both, so the numbers one by one are what `put_rows` puts, whatever the cells
+fit_below : (n : ℕ) → fit n < 65536
+unfolding fit
+fit_below n = by_test (ltb n 65536) (λ t. rw t (ltb-true n 65536 t)) (λ t. rw t (omega arith))
+
+fit_twice : (c : List ℕ) (i : ℕ) → fit (get_or c i 0) ≡ fit (get_or (map fit c) i 0)
+fit_twice c i = sym (fit_small (fit (get_or c i 0)) (fit_below (get_or c i 0))) ∙ ap fit (fit_at c i)
+
+pub fitted : (c : List ℕ) (i : ℕ) → get_or (map fit c) i 0 < 65536
+fitted c i = rw (← fit_at c i) (fit_below (get_or c i 0))
+
+module _ (c0 c1 c2 c3 c4 : List ℕ) where
+  cell_of_fit : (index i : ℕ) → cell_of c0 c1 c2 c3 c4 index i ≡ cell_of c0 c1 c2 (map fit c3) (map fit c4) index i
+  unfolding cell_of
+  cell_of_fit index i = rw (fit_twice c3 i, fit_twice c4 i) refl
+
+  listed_fit : (width left index i : ℕ) → listed c0 c1 c2 c3 c4 width left index i ≡ listed c0 c1 c2 (map fit c3) (map fit c4) width left index i
+  unfolding listed
+  listed_fit width zero index i = refl
+  listed_fit width (suc left) index i =
+      rw (cell_of_fit index i)
+      (ap (λ (l : List ℕ). cell_of c0 c1 c2 (map fit c3) (map fit c4) index i ∷ l) (listed_fit width left (next_index width index) (next_row width index i)))
+
+  pub put_listed : (columns : List Column) (narrow : ℕ) → narrow < 5 →
+      columns_from c0 c1 c2 (map fit c3) (map fit c4) (fitted c3) (fitted c4) (suc narrow) 0 ≡ map column_of columns → (count i : ℕ) →
+      listed c0 c1 c2 c3 c4 (suc narrow) (count * suc narrow) 0 i ≡ rows_from (map column_of columns) count i
+  put_listed columns narrow h e count i =
+      listed_fit (suc narrow) (count * suc narrow) 0 i
+      ∙ rows c0 c1 c2 (map fit c3) (map fit c4) (fitted c3) (fitted c4) narrow (map column_of columns) h e count i
+
+-- the five columns of the functions
+pub functions_listed : (t : Tables) (count : ℕ) →
+    listed t.function_ids.now t.parameters.now t.maxima.now t.offsets.now t.lengths.now 5 (count * 5) 0 0 ≡
+    rows_from (map column_of (Narrow t.function_ids ∷ (Narrow t.parameters ∷ (Narrow t.maxima ∷ (Wide t.offsets ∷ (Wide t.lengths ∷ [])))))) count 0
+unfolding columns_from column
+functions_listed t count =
+    put_listed t.function_ids.now t.parameters.now t.maxima.now t.offsets.now t.lengths.now
+    (Narrow t.function_ids ∷ (Narrow t.parameters ∷ (Narrow t.maxima ∷ (Wide t.offsets ∷ (Wide t.lengths ∷ []))))) 4 (omega arith) refl count 0

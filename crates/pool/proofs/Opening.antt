@@ -3,6 +3,7 @@
 -- Assumes nothing.
 use Rattle.std.specs.Prelude.{Some, None}
 use Rattle.codes.specs.First.{Place}
+use borrow.Author.Tests.{lt-ltb}
 use Prim.Native.Nat.{ℕ, suc, ◌+◌, ◌-◌, ◌*◌, ◌≤◌, ◌<◌}
 use native.Mathlib.Omega.{arith}
 use mathlib.Core.Path.{◌≡◌, refl}
@@ -40,6 +41,13 @@ cell_is ids id = by (place_of ids id) refl
     by : (p : Place) → place_of ids id ≡ p → (cell_at p ≡ 0) ⊎ ((row : ℕ) × (row < length ids) × (p ≡ Some row) × (cell_at p ≡ suc row))
     by (Some row) e = ⊎_elim (λ z. inl z) (λ z. inr (row, place_in ids id row e, refl, z)) (cell row (ltb row 128))
     by None e = inl refl
+
+-- in a directory of at most 128 functions every row has its cell
+pub row_cell : (ids : List ℕ) (id row : ℕ) → length ids ≤ 128 → place_of ids id ≡ Some row → cell_at (place_of ids id) ≡ suc row
+row_cell ids id row few e =
+    let l = place_in ids id row e in
+    let z : row + 1 ≡ suc row = omega arith in
+    rw (e, lt-ltb row 128 (omega arith)) z
 
 cell_inside : (ids : List ℕ) (id : ℕ) → cell_at (place_of ids id) ≤ length ids
 cell_inside ids id = ⊎_elim (λ z. omega (arith, z)) (λ r. omega (arith, r.1, r.3)) (cell_is ids id)

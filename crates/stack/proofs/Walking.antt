@@ -71,19 +71,21 @@ module _ (rule : ℕ → ℕ → Look) (n : ℕ) (depths queue : List ℕ) (head
             goes_on = ap (λ (k : ℕ). walk_from rule (left - 1) d (k ∷ drop (head + 1) (take end q))) e ∙ sym g ∙ w.goes_on;
           }
 
-    pub walking_on : (r : Reached) (end : ℕ) → length d ≡ length depths → head ≡ tail → Turns true tail queue (Ok (Some r)) end d q (follow depths (take tail queue) (rule offset depth)) → Walking rule n d q head tail r.offset r.depth (left - 1)
+    pub walking_on : (r : Reached) (end : ℕ) → length d ≡ length depths → head ≡ tail → Turns true tail queue (Ok (Some r)) end d q (follow depths (take tail queue) (rule offset depth)) → Walking rule n d q head tail r.offset r.depth (left - 1) × (length q ≡ length queue)
     walking_on r end long h turn =
         let to = r.offset in
         let t = turn.1.1 in
-        let g = loop_on rule depths queue offset depth head tail (rule offset depth) w.deep refl w.behind room left d to more h (t.0 ∙ ap (λ (u : List ℕ). go d (take tail u ++ (to ∷ []))) t.1.0) in
-        record {
-          long = long ∙ w.long;
-          ready = t.1.1.1.1;
-          behind = w.behind;
-          deep = omega (arith, t.1.1.0);
-          small = omega (arith, t.1.1.1.0);
-          goes_on = ap (λ (u : List ℕ). walk_from rule (left - 1) d (to ∷ drop head (take tail u))) t.1.0 ∙ sym g ∙ w.goes_on;
-        }
+        let g = loop_on rule depths queue offset depth head tail (rule offset depth) w.deep refl w.behind room left d to more h (t.0 ∙ ap (λ (u : List ℕ). go d (take tail u ++ (to ∷ []))) t.1.0) in (
+          record {
+            long = long ∙ w.long;
+            ready = t.1.1.1.1;
+            behind = w.behind;
+            deep = omega (arith, t.1.1.0);
+            small = omega (arith, t.1.1.1.0);
+            goes_on = ap (λ (u : List ℕ). walk_from rule (left - 1) d (to ∷ drop head (take tail u))) t.1.0 ∙ sym g ∙ w.goes_on;
+          },
+          ap length t.1.0,
+        )
 
 -- the columns that a walk begins with
 pub begins_ready : (depths queue : List ℕ) (n : ℕ) → depths ≡ begun n → 0 < n → n ≤ length queue → n ≤ 65536 → Ready depths queue 0

@@ -1,5 +1,5 @@
 -- The cycle of calls of `visit::total` and `visit::largest`: each turn and return is a law of `Steps`. Assumes nothing.
-use Rattle.std.proofs.Common.{◌≡◌, ℕ, ap, ◌∙◌, set, max, arith}
+use Rattle.std.proofs.Common.{◌≡◌, set, arith}
 use Rattle.visit.specs.Cells.{graph_of}
 use Rattle.visit.specs.Marks.{unopened}
 use Rattle.visit.proofs.Colours.{unopened_open, into, opened_kept}
@@ -8,6 +8,8 @@ use Rattle.visit.proofs.+largest_total.Goals as goal
 use Rattle.visit.proofs.+largest_total.Goals.{largest-in-0+in_ok-t-in-0, largest-in_default}
 use Rattle.std.proofs.lemmas.Result.{err_from_is_err_and}
 use Rattle.std.proofs.lemmas.List.{get_or_past}
+use borrow.Author.Rules.{rules}
+use Rattle.std.specs.Prelude.{Ok, Err}
 
 pub largest-loop-c-init : goal.largest-loop-c-init
 largest-loop-c-init t c =
@@ -45,16 +47,15 @@ largest-loop-c-preserved t c =
     let a = c.args in
     let l = c.loop-c in
     let part = c.part-c-items in
-    let most : (t : ℕ) → c.match-state-g.t ≡ t → c.max-best.result ≡ max l.best t = λ t e. c.max-best.ensures ∙ ap (max l.best) e in
     elim c.match-state-g.branch [
       | largest-in-0+in_ok-t-in-0 w ↦
           rw w.state-is
           (row_fine a.graph.now a.f a.state part.result.now part.ensures l.best l.state l.c-index l.invariant
-          c.loop-c-test.true c.if-c-eq0.false c.if-g-ge128.false w.in-0.is w.total.result w.total.ensures _ _ w.in_ok-t-in-0.was _ (most _ w.t-is))
+          c.loop-c-test.true c.if-c-eq0.false c.if-g-ge128.false w.in-0.is w.total.result w.total.ensures _ _ w.in_ok-t-in-0.was _ (search (rules, c, w)))
       | largest-in_default w ↦
           rw w.state-is
           (row_closed a.graph.now a.f a.state part.result.now part.ensures l.best l.state l.c-index l.invariant
-          c.loop-c-test.true c.if-c-eq0.false c.if-g-ge128.false (λ e. absurd (omega arith)) (λ e. absurd (omega arith)) _ (most _ w.t-is))
+          c.loop-c-test.true c.if-c-eq0.false c.if-g-ge128.false (λ e. absurd (omega arith)) (λ e. absurd (omega arith)) _ (search (rules, c, w)))
     ]
 
 pub largest-returns-after-loop-c : goal.largest-returns-after-loop-c
@@ -87,19 +88,22 @@ total-returns-in_err-best t c =
     let a = c.args in
     let p = c.requires in
     let r = err_from_is_err_and c.from_residual.result c.from_residual.ensures.1 in
+    let e : c.largest.result ≡ Err c.in_err-best.field-0.0 = search (rules, c) in
     rw (r.1, r.2)
-    (closes_failed (graph_of a.graph.now) a.graph.now.pool a.f a.state p.0 p.1 p.2 c.largest.result c.largest.ensures _ c.in_err-best.was)
+    (closes_failed (graph_of a.graph.now) a.graph.now.pool a.f a.state p.0 p.1 p.2 c.largest.result c.largest.ensures _ e)
 
 pub total-returns-then-graph-sum : goal.total-returns-then-graph-sum
 total-returns-then-graph-sum t c =
     let a = c.args in
     let p = c.requires in
+    let e : c.largest.result ≡ Ok (c.in_ok-best.best, c.in_ok-best.state) = search (rules, c) in
     closes_above (graph_of a.graph.now) a.graph.now.pool a.f a.state p.0 p.1 p.2 c.largest.result c.largest.ensures
-    _ _ c.in_ok-best.was c.at.result c.saturating_add-sum.result c.at.ensures c.saturating_add-sum.ensures c.if-graph-sum.true
+    _ _ e c.at.result _ c.at.ensures (search (rules, c)) c.if-graph-sum.true
 
 pub total-returns : goal.total-returns
 total-returns t c =
     let a = c.args in
     let p = c.requires in
+    let e : c.largest.result ≡ Ok (c.in_ok-best.best, c.in_ok-best.state) = search (rules, c) in
     closes_below (graph_of a.graph.now) a.graph.now.pool a.f a.state p.0 p.1 p.2 c.largest.result c.largest.ensures
-    _ _ c.in_ok-best.was c.at.result c.saturating_add-sum.result c.at.ensures c.saturating_add-sum.ensures c.if-graph-sum.false
+    _ _ e c.at.result _ c.at.ensures (search (rules, c)) c.if-graph-sum.false

@@ -25,7 +25,7 @@ loop-i-preserved-in-Some c = let l = c.loop-i in
     let n = length c.args.body.now + 1 in
     let e : n - (l.i + 1) ≡ n - l.i - 1 = omega arith in
     let g = rw (c.in_ok-next.was ∙ ap Ok c.in-Some.is) at t.ensures.turns in
-    rw (e, g.0) (walking_on _ _ l.queue.depths.now l.queue.places.now l.head l.queue.tail l.entry.offset l.entry.depth _ l.invariant (omega (arith, c.loop-i-test.true)) t.new.queue.depths.now t.new.queue.places.now c.in-Some.next _ t.ensures.same (eqb-true _ _ g.1.0) (g.0, (refl, g.1.1)))
+    rw (e, g.0) (walking_on _ _ l.queue.depths.now l.queue.places.now l.head l.queue.tail l.entry.offset l.entry.depth _ l.invariant (omega (arith, c.loop-i-test.true)) t.new.queue.depths.now t.new.queue.places.now c.in-Some.next _ t.ensures.same (eqb-true _ _ g.1.0) (g.0, (refl, g.1.1))).0
 
 pub returns-then-queue-head : goal.returns-then-queue-head
 returns-then-queue-head c = let l = c.loop-i in

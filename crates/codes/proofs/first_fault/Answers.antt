@@ -1,4 +1,4 @@
--- `codes::check_rows` meets its contract: no row that was passed is faulty, and `low` is the least id that the next row may have.
+-- `codes::first_fault` meets its contract: no row that was passed is faulty, and `low` is the least id that the next row may have.
 -- Assumes nothing.
 use Prim.Native.Nat.{ℕ, ◌≤◌, ◌<◌, ◌+◌}
 use mathlib.Core.Path.{refl, sym}
@@ -11,8 +11,8 @@ use borrow.Author.Rules.{rules}
 use lib.ListN.{get_or, length}
 use Rattle.codes.specs.Laws.{faulty_id, faulty_flag, sound_row, none_rises}
 use Rattle.codes.proofs.Laws.{fault_if}
-use Rattle.codes.proofs.check_rows.Invariants.{Passed}
-use Rattle.codes.proofs.check_rows.Goals as goal
+use Rattle.codes.proofs.first_fault.Invariants.{Passed}
+use Rattle.codes.proofs.first_fault.Goals as goal
 
 module _ (ids flags : List ℕ) (low i : ℕ) (p : Passed ids flags low i) (h : i < length ids) where
   next : low ≤ get_or ids i 0 → get_or flags i 0 ≤ 1 → Passed ids flags (get_or ids i 0 + 1) (i + 1)
