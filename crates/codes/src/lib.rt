@@ -2,8 +2,8 @@
 
 #![tactic(auto)]
 
-ghost use Rattle.std.specs.Prelude.{◌≡◌, true, cond, leb, ◌+◌, ◌<◌, ◌%◌, length, Ok};
-ghost use Rattle.codes.specs.Rows.{rows_of};
+ghost use Rattle.std.specs.Prelude.{◌≡◌, ℕ, true, false, cond, leb, ◌+◌, ◌≤◌, ◌<◌, ◌%◌, length};
+ghost use Rattle.codes.specs.Rows.{low_at, faulty, rows_of};
 ghost use Rattle.codes.specs.Lookup.{halved_of, looked_up, entry_at, noted, noted_for, hinted_of, hinted_up};
 
 // The list's columns.
@@ -21,26 +21,57 @@ pub struct Listed {
     pub flag: u16,
 }
 
-// Whether no row is faulty. No early end: the compiler then looks at many rows at once.
-fn in_order(ids: &[u16], flags: &[u16]) -> bool
-    requires { length flags.now ≡ length ids.now }
-    ensures sound { result ≡ true → rows_of ids.now flags.now ≡ Ok tt }
-    ensures whole { rows_of ids.now flags.now ≡ Ok tt → result ≡ true }
+// The rows that are tested at once.
+const BLOCK: usize = 64;
+
+// Whether none of the rows from `first` to before `end` is faulty. No early end: the compiler then looks at many rows at once.
+fn in_order(ids: &[u16], flags: &[u16], first: usize, end: usize) -> bool
+    requires rows { (0 < first) × ((first ≤ end) × (end ≤ length ids.now)) }
+    requires flags { length flags.now ≡ length ids.now }
+    ensures sound { result ≡ true → (k : ℕ) → first ≤ k → k < end → faulty ids.now flags.now k ≡ false }
+    ensures whole { ((k : ℕ) → first ≤ k → k < end → faulty ids.now flags.now k ≡ false) → result ≡ true }
 {
-    let mut fault = cells::at(flags, 0) > 1;
-    for i in 1..ids.len() {
+    let mut fault = false;
+    for i in first..end {
         fault |= ids[i] <= ids[i - 1];
         fault |= flags[i] > 1;
     }
     !fault
 }
 
-// The first faulty row. `low` is the least id that the row may have.
-fn first_fault(ids: &[u16], flags: &[u16]) -> Result<(), usize>
+// So many rows at the front, in blocks, are in order: where columns differ in length, or a block is faulty, no more is said.
+fn sound_rows(ids: &[u16], flags: &[u16]) -> usize
+    ensures rows { result ≤ length ids.now }
+    ensures sound { (k : ℕ) → k < result → faulty ids.now flags.now k ≡ false }
+{
+    if ids.is_empty() || ids.len() != flags.len() || flags[0] > 1 {
+        return 0;
+    }
+    let mut row = 1;
+    while BLOCK <= ids.len() - row {
+        if !in_order(ids, flags, row, row + BLOCK) {
+            return row;
+        }
+        row += BLOCK;
+    }
+    row
+}
+
+// The least id that a row may have.
+fn least(ids: &[u16], row: usize) -> u32
+    requires { row ≤ length ids.now }
+    ensures { result ≡ low_at ids.now row }
+{
+    if row == 0 { 0 } else { ids[row - 1] as u32 + 1 }
+}
+
+// Refusal 34: ids not rising, or a flag above 1; the error is the first faulty row. `low` is the least id that the row may have.
+pub fn check_rows(ids: &[u16], flags: &[u16]) -> Result<(), usize>
     ensures { result ≡ rows_of ids.now flags.now }
 {
-    let mut low: u32 = 0;
-    for i in 0..ids.len() {
+    let first = sound_rows(ids, flags);
+    let mut low = least(ids, first);
+    for i in first..ids.len() {
         let id = ids[i] as u32;
         if id < low {
             return Err(i);
@@ -52,18 +83,6 @@ fn first_fault(ids: &[u16], flags: &[u16]) -> Result<(), usize>
         low = id + 1;
     }
     Ok(())
-}
-
-// Refusal 34: ids not rising, or a flag above 1; the error is the first faulty row.
-pub fn check_rows(ids: &[u16], flags: &[u16]) -> Result<(), usize>
-    ensures { result ≡ rows_of ids.now flags.now }
-{
-    if ids.len() == flags.len() {
-        if in_order(ids, flags) {
-            return Ok(());
-        }
-    }
-    first_fault(ids, flags)
 }
 
 // Where the half begins that may have the id: a product in place of a choice, since the compiler makes a jump of a choice, and no

@@ -1,18 +1,16 @@
--- `codes::first_fault` meets its contract: no row that was passed is faulty, and `low` is the least id that the next row may have.
+-- `codes::check_rows` meets its contract: no row that was passed is faulty, and `low` is the least id that the next row may have.
 -- Assumes nothing.
 use Prim.Native.Nat.{ℕ, ◌≤◌, ◌<◌, ◌+◌}
-use mathlib.Core.Path.{refl, sym}
+use mathlib.Core.Path.{sym}
 use mathlib.Core.List.{List}
-use native.Mathlib.Nat.{not-suc-le-zero}
 use native.Mathlib.Numerals.{add-one}
 use native.Mathlib.Omega.{arith}
 use borrow.Author.Count.{below_more}
-use borrow.Author.Rules.{rules}
 use lib.ListN.{get_or, length}
 use Rattle.codes.specs.Laws.{faulty_id, faulty_flag, sound_row, none_rises}
 use Rattle.codes.proofs.Laws.{fault_if}
-use Rattle.codes.proofs.first_fault.Invariants.{Passed}
-use Rattle.codes.proofs.first_fault.Goals as goal
+use Rattle.codes.proofs.check_rows.Invariants.{Passed}
+use Rattle.codes.proofs.check_rows.Goals as goal
 
 module _ (ids flags : List ℕ) (low i : ℕ) (p : Passed ids flags low i) (h : i < length ids) where
   next : low ≤ get_or ids i 0 → get_or flags i 0 ≤ 1 → Passed ids flags (get_or ids i 0 + 1) (i + 1)
@@ -24,7 +22,7 @@ module _ (ids flags : List ℕ) (low i : ℕ) (p : Passed ids flags low i) (h : 
       }
 
 pub loop-i-init : goal.loop-i-init
-loop-i-init c = record { inside = search rules; lowest = refl; sound = λ k h. absurd (not-suc-le-zero h) }
+loop-i-init c = let f = c.sound_rows-first.ensures in record { inside = f.rows; lowest = c.least-low.ensures; sound = f.sound }
 
 pub returns-then-id-low : goal.returns-then-id-low
 returns-then-id-low c = let l = c.loop-i in

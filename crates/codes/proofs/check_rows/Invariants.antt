@@ -1,4 +1,4 @@
--- `codes::first_fault` meets its contract: no row that was passed is faulty, and `low` is the least id that the next row may have.
+-- `codes::check_rows` meets its contract: no row that was passed is faulty, and `low` is the least id that the next row may have.
 -- Assumes nothing.
 use Prim.Native.Nat.{ℕ, ◌≤◌, ◌<◌, ◌-◌}
 use mathlib.Core.Path.{◌≡◌}
@@ -6,7 +6,7 @@ use mathlib.Core.List.{List}
 use mathlib.Core.Bool.{false}
 use lib.ListN.{length}
 use Rattle.codes.specs.Rows.{low_at, faulty}
-use Rattle.codes.proofs.first_fault.Given as goal
+use Rattle.codes.proofs.check_rows.Given as goal
 
 -- the rows before row i are passed, and `low` is the least id that row i may have
 pub record Passed (ids flags : List ℕ) (low i : ℕ) : Type 0 where
